@@ -1,0 +1,49 @@
+ghost use Rattle.std.specs.Prelude.{◌≡◌, ◌+◌, ◌<◌, ◌^◌};
+
+use crate::shown::Shown;
+use crate::test::{Test, Verdict};
+use std::marker::Model;
+
+/// A test that counts how often it was asked.
+#[derive(Drop)]
+pub struct Probe<'p, P> {
+    inner: &'p P,
+    made: u64,
+}
+
+impl<'p, P> Model for Probe<'p, P> {
+    ghost use Rattle.par_laws.specs.Words.{Probing, probing_code};
+
+    ghost Value = { Probing P };
+
+    ghost coded = { probing_code P.code };
+
+    ghost view = { λ p. record { inner = p.inner.now; made = p.made } };
+}
+
+impl<'p, P> Probe<'p, P> {
+    pub fn new(inner: &'p P) -> Probe<'p, P>
+        ensures inner { result.inner ≡ inner.entry.now }
+        ensures made { result.made ≡ 0 }
+    {
+        Probe { inner, made: 0 }
+    }
+
+    pub fn made(&self) -> u64
+        ensures { result ≡ self.now.made }
+    {
+        self.made
+    }
+
+    pub fn test<I: Shown>(&mut self, item: &I) -> Verdict
+    where
+        P: Test<I>,
+        requires { self.old.made + 1 < 2 ^ 64 }
+        ensures answer { result ≡ P.verdict self.old.inner (I.shown item.now) }
+        ensures inner { self.new.inner ≡ self.old.inner }
+        ensures made { self.new.made ≡ self.old.made + 1 }
+    {
+        self.made += 1;
+        self.inner.test(item)
+    }
+}

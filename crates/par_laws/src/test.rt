@@ -1,0 +1,63 @@
+ghost use Rattle.std.specs.Prelude.{◌≡◌};
+
+use crate::shown::Shown;
+
+/// What a test finds of an item. The number of a fault is the caller's own kind.
+#[derive(Clone, Copy, Debug, PartialEq, Eq)]
+pub enum Verdict {
+    Pass,
+    Fail,
+    Fault(u8),
+}
+
+/// A test that answers its definition.
+pub trait Test<I: Shown> {
+    ghost use Rattle.par_laws.specs.declared.test.Verdict.{Verdict};
+
+    ghost verdict: { Self → I.Value → Verdict };
+
+    fn test(&self, item: &I) -> Verdict
+        ensures { result ≡ verdict self.now (I.shown item.now) };
+}
+
+/// The contrary test.
+#[derive(Drop)]
+pub struct Not<P> {
+    pub inner: P,
+}
+
+impl<I: Shown, P: Test<I>> Test<I> for Not<P> {
+    ghost use Rattle.par_laws.specs.Words.{contrary};
+
+    ghost verdict = { λ n x. contrary (P.verdict n.inner x) };
+
+    fn test(&self, item: &I) -> Verdict {
+        match self.inner.test(item) {
+            Verdict::Pass => Verdict::Fail,
+            Verdict::Fail => Verdict::Pass,
+            Verdict::Fault(kind) => Verdict::Fault(kind),
+        }
+    }
+}
+
+impl<I: Shown, P: Test<I>> Test<I> for &P {
+    ghost verdict = { λ n x. P.verdict n.now x };
+
+    fn test(&self, item: &I) -> Verdict {
+        (**self).test(item)
+    }
+}
+
+/// The test that no item passes.
+#[derive(Drop)]
+pub struct Never;
+
+impl<I: Shown> Test<I> for Never {
+    ghost use Rattle.par_laws.specs.declared.test.Verdict.TheVariants.{Fail};
+
+    ghost verdict = { λ _ _. Fail };
+
+    fn test(&self, _item: &I) -> Verdict {
+        Verdict::Fail
+    }
+}
