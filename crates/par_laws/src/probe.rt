@@ -12,7 +12,7 @@ pub struct Probe<'p, P> {
 }
 
 impl<'p, P> Model for Probe<'p, P> {
-    ghost use Rattle.par_laws.specs.Words.{Probing, probing_code};
+    ghost use Rattle.par_laws.specs.Probing.{Probing, probing_code};
 
     ghost Value = { Probing P };
 

@@ -27,7 +27,7 @@ pub struct Not<P> {
 }
 
 impl<I: Shown, P: Test<I>> Test<I> for Not<P> {
-    ghost use Rattle.par_laws.specs.Words.{contrary};
+    ghost use Rattle.par_laws.specs.Verdict.{contrary};
 
     ghost verdict = { λ n x. contrary (P.verdict n.inner x) };
 
