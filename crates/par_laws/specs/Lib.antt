@@ -1,3 +1,4 @@
+pub mod Guarded
 pub mod Hash
 pub mod Marks
 pub mod MonoidLaws

@@ -9,6 +9,7 @@
 //! - A call that finds no memory answers `Memory`, or `Back` with what it was given.
 #![tactic(auto)]
 
+mod guard;
 mod hash;
 mod keep;
 mod key;
@@ -22,6 +23,7 @@ mod test;
 mod tried;
 mod words;
 
+pub use guard::{Guard, Guarded, Made};
 pub use hash::mix;
 pub use keep::Keep;
 pub use key::{HashKey, KeyOf};
