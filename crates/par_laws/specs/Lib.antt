@@ -1,3 +1,9 @@
+pub mod Guarded
+pub mod Hash
 pub mod Marks
+pub mod MonoidLaws
+pub mod Optional
 pub mod Probing
+pub mod Text
 pub mod Verdict
+pub mod Wrapping

@@ -4,7 +4,7 @@ use crate::shown::Shown;
 use crate::test::{Test, Verdict};
 use std::marker::Model;
 
-/// A test that counts how often it was asked.
+/// A test that counts how often it was asked. Contracts see the test and the count.
 #[derive(Drop)]
 pub struct Probe<'p, P> {
     inner: &'p P,
@@ -22,6 +22,7 @@ impl<'p, P> Model for Probe<'p, P> {
 }
 
 impl<'p, P> Probe<'p, P> {
+    /// A probe of the test, which was not asked yet.
     pub fn new(inner: &'p P) -> Probe<'p, P>
         ensures inner { result.inner ≡ inner.entry.now }
         ensures made { result.made ≡ 0 }
@@ -29,12 +30,14 @@ impl<'p, P> Probe<'p, P> {
         Probe { inner, made: 0 }
     }
 
+    /// How many tests were made.
     pub fn made(&self) -> u64
         ensures { result ≡ self.now.made }
     {
         self.made
     }
 
+    /// The test's verdict on the item. The count rises by one.
     pub fn test<I: Shown>(&mut self, item: &I) -> Verdict
     where
         P: Test<I>,

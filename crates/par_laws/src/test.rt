@@ -2,26 +2,28 @@ ghost use Rattle.std.specs.Prelude.{◌≡◌};
 
 use crate::shown::Shown;
 
-/// What a test finds of an item. The number of a fault is the caller's own kind.
-#[derive(Clone, Copy, Debug, PartialEq, Eq)]
+/// What a test finds of an item.
+#[derive(Clone, Copy, Debug, PartialEq, Eq, Hash)]
 pub enum Verdict {
     Pass,
     Fail,
+    /// The item has no truth value. The number is the caller's own kind.
     Fault(u8),
 }
 
-/// A test that answers its definition.
+/// A test of an item. It answers its definition, always returns and takes no memory.
 pub trait Test<I: Shown> {
     ghost use Rattle.par_laws.specs.declared.test.Verdict.{Verdict};
 
     ghost verdict: { Self → I.Value → Verdict };
 
+    /// The verdict on the item.
     fn test(&self, item: &I) -> Verdict
         ensures { result ≡ verdict self.now (I.shown item.now) };
 }
 
-/// The contrary test.
-#[derive(Drop)]
+/// The contrary test: it exchanges Pass and Fail, and keeps a fault.
+#[derive(Clone, Copy, Debug, Drop)]
 pub struct Not<P> {
     pub inner: P,
 }
@@ -40,6 +42,7 @@ impl<I: Shown, P: Test<I>> Test<I> for Not<P> {
     }
 }
 
+/// A test that is lent answers as the test itself.
 impl<I: Shown, P: Test<I>> Test<I> for &P {
     ghost verdict = { λ n x. P.verdict n.now x };
 
@@ -48,8 +51,8 @@ impl<I: Shown, P: Test<I>> Test<I> for &P {
     }
 }
 
-/// The test that no item passes.
-#[derive(Drop)]
+/// The test that no item passes. A job without a predicate has it.
+#[derive(Clone, Copy, Debug, Default)]
 pub struct Never;
 
 impl<I: Shown> Test<I> for Never {

@@ -1,6 +1,8 @@
 ghost use Rattle.std.specs.Prelude.{◌≡◌, ◌++◌, [], IfOk, is_ok, if◌then◌else◌, true, encode_utf8_all};
 ghost use Rattle.std.specs.Str.{all_scalars, chars};
 
+mod order;
+
 use crate::memory::Memory;
 use std::alloc::Global;
 use std::marker::Model;
