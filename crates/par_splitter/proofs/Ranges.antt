@@ -6,7 +6,9 @@ use Rattle.std.proofs.Math.Nat.{mul-le-mul_right}
 use Rattle.std.proofs.lemmas.Grind.{div_ceil_times}
 use Rattle.std.proofs.Math.IntN.{zero-*ℤ, +ℤ_idr}
 use Rattle.std.proofs.lemmas.Int.{ints}
-use Rattle.par_splitter.specs.Range.{IsBefore, IsRangeCount}
+use Rattle.std.specs.Prelude.{FitsSigned}
+use Rattle.std.specs.Int.{w64}
+use Rattle.par_splitter.specs.Range.{AllFit, IsBefore, IsRangeCount}
 
 -- as many multiples of m lie below d as d / m, rounded up
 multiple_below : (d m i : ℕ) → 0 < m → i < div_ceil d m → i * m < d
@@ -69,3 +71,26 @@ counted_in_bits a b c a' b' c' n d m ea eb ec some h en ed em =
 
 pub none_counted_in_bits : (a b c a' b' c' : ℤ) → a' ≡ a → b' ≡ b → c' ≡ c → ¬ IsBefore c' a' b' → IsRangeCount a b c 0
 none_counted_in_bits a b c a' b' c' ea eb ec out = rw (sym ea, sym eb, sym ec) (none_counted a' b' c' out)
+
+-- a range has one count
+pub one_count : (a b c : ℤ) (m n : ℕ) → IsRangeCount a b c m → IsRangeCount a b c n → m ≡ n
+one_count a b c m n hm hn = grind arith
+
+between : (x y z : ℤ) → FitsSigned w64 x → FitsSigned w64 z → x ≤ℤ y → y ≤ℤ z → FitsSigned w64 y
+between x (pos n) (pos m) fx fz h k = let l = fz.sfits in record { sfits = omega (arith, ints, l) }
+between x (pos n) (negsuc m) fx fz h k = absurd (omega (arith, ints))
+between (negsuc l) (negsuc n) z fx fz h k = let r = fx.sfits in record { sfits = omega (arith, ints, r) }
+between (pos l) (negsuc n) z fx fz h k = absurd (omega (arith, ints))
+
+-- each number of a range stands between two values of i64
+pub fit_between : (a b c : ℤ) (n : ℕ) → FitsSigned w64 a → FitsSigned w64 b → c ≢ pos 0 → IsRangeCount a b c n → AllFit a c n
+fit_between a b (pos zero) n fa fb some is i h = absurd (some refl)
+fit_between a b (pos (suc k)) n fa fb some is i h =
+    let below : (a +ℤ pos (i * suc k)) <ℤ b = (is.inside i h).0 (omega (arith, ints)) in
+    between a _ b fa fb (omega (arith, ints)) (omega (arith, ints))
+fit_between a b (negsuc k) n fa fb some is i h =
+    let above : b <ℤ (a +ℤ neg_ℤ (pos (i * suc k))) = (is.inside i h).1 (omega (arith, ints)) in
+    between b _ a fb fa (omega (arith, ints)) (omega (arith, ints))
+
+pub count_in_bits : (a b c a' b' c' : ℤ) (n : ℕ) → a' ≡ a → b' ≡ b → c' ≡ c → IsRangeCount a' b' c' n → IsRangeCount a b c n
+count_in_bits a b c a' b' c' n ea eb ec is = rw (sym ea, sym eb, sym ec) is

@@ -1,6 +1,7 @@
 -- Ranges of whole numbers. Scala: `a until b by c` begins with a, excludes b, and is empty where the step leads away
 -- from b.
-use Rattle.std.specs.Prelude.{◌≡◌, ℕ, ◌<◌, List, length, map, ℤ, pos, ◌+ℤ◌, ◌*ℤ◌, ◌<ℤ◌}
+use Rattle.std.specs.Prelude.{◌≡◌, ℕ, ◌<◌, List, length, map, ℤ, pos, ◌+ℤ◌, ◌*ℤ◌, ◌<ℤ◌, FitsSigned}
+use Rattle.std.specs.Int.{w64}
 use Rattle.std.specs.List.{range_with_len}
 
 -- x lies before b in the direction of the step c
@@ -20,3 +21,11 @@ stepped a c n = map (λ i. a +ℤ pos i *ℤ c) (range_with_len 0 n)
 pub record IsRange (a b c : ℤ) (xs : List ℤ) : Type 0 where
   pub numbers : xs ≡ stepped a c (length xs)
   pub count : IsRangeCount a b c (length xs)
+
+-- each of the n numbers a + i * c is a value of i64
+abbrev pub AllFit : ℤ → ℤ → ℕ → Type 0
+AllFit a c n = (i : ℕ) → i < n → FitsSigned w64 (a +ℤ pos i *ℤ c)
+
+-- x is the number k steps on from a, if that is a value of i64
+abbrev pub IsReached : ℤ → ℤ → ℕ → ℤ → Type 0
+IsReached a c k x = FitsSigned w64 (a +ℤ pos k *ℤ c) → x ≡ a +ℤ pos k *ℤ c
