@@ -1,6 +1,8 @@
-ghost use Rattle.std.specs.Prelude.{◌≡◌, ℕ, ◌+◌, ◌<◌, List, length, Bool, IsTrue, MatchOption};
+ghost use Rattle.std.specs.Prelude.{◌≡◌, ℕ, ◌+◌, ◌<◌, List, length, Bool, IsTrue, IfOk, IfErr, MatchOption};
 
-use par_laws::Shown;
+use crate::psplit::cut_by_sizes;
+use par_laws::{Back, Shown};
+use std::alloc::Global;
 
 /// What a split gives: the one splitter again, or two parts in order.
 #[derive(Drop)]
@@ -49,13 +51,27 @@ pub trait Splitter: Sized + Drop + Send + Sync {
         ensures { IsDup items lo self.now result };
 }
 
+/// The parts that `psplit` gives.
+pub type Parts<S> = Vec<S>;
+
 /// A splitter that can be cut at any place, and that a split halves.
 pub trait Precise: Splitter {
     ghost use Rattle.par_splitter.specs.Parts.{IsCutAt};
+    ghost use Rattle.par_splitter.specs.Sizes.{ArePartsBySize};
 
     /// The first `k` items, or all where fewer are left, and the rest. Constant time, and takes no memory.
     fn cut_at(self, k: u32) -> (Self, Self)
         ensures { IsCutAt Self.items Self.lo self k result.0 result.1 };
+
+    /// Cuts the items by the sizes in turn, each part adjacent to the one before it. A size for which too few items are
+    /// left gets those that are left. Where items are left over, one more part with them stands last. Linear in the
+    /// number of sizes. For want of memory alone it hands the splitter back as it was.
+    final fn psplit(self, alloc: Global, sizes: &[u32]) -> Result<Parts<Self>, Back<Self>>
+        ensures parts { IfOk result (λ parts. ArePartsBySize Self.items Self.lo self sizes.now parts.items) }
+        ensures back { IfErr result (λ refused. refused.item ≡ self) }
+    {
+        cut_by_sizes(self, alloc, sizes)
+    }
 
     ghost halving: { IsTrue Self.halves };
 }
