@@ -1,7 +1,7 @@
 -- What each call reads, and what its seat has seen afterwards.
 use Rattle.std.specs.Prelude.{◌≡◌, ℕ, ◌+◌, ◌≤◌, Bool, true, false, ◌||◌, List, [], ◌∷◌, ◌++◌, length, min, max}
 use Rattle.par_signal.specs.declared.abort.Abort.{Abort}
-use Rattle.par_signal.specs.declared.abort.Abort.TheVariants.{No, By, Memory}
+use Rattle.par_signal.specs.declared.abort.Abort.TheVariants.{No, Memory}
 use Rattle.par_signal.specs.Values.{IsLow, IsHigh, IsAbort, MayFollow, set_by, greater, word_of}
 use Rattle.par_signal.specs.Seen.{Kind, load_low, load_high, load_abort, lower, raise, abort_by, abort_memory, Sight}
 

@@ -8,7 +8,9 @@ use std::marker::{Brand, Model, PhantomData};
 use std::snapshot::Snapshot;
 
 pub const LOW: usize = 0;
+
 pub const HIGH: usize = 1;
+
 pub const ABORT: usize = 2;
 
 /// The value of the abort flag for want of memory.

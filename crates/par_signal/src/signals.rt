@@ -28,13 +28,12 @@ pub struct SignalSeat {
 }
 
 impl Model for SignalSeat {
-    ghost use Rattle.std.specs.Prelude.{◌≡◌, true, []};
     ghost use Rattle.par_signal.specs.Seen.{Seen};
-    ghost use Rattle.par_signal.specs.Rule.{located, IsNamed};
+    ghost use Rattle.par_signal.specs.Rule.{located, IsSeat};
 
     ghost Value = { Seen };
 
     ghost view = { λ s. located s.seat.table_id s.seat.me.0.seen };
 
-    ghost invariant = { λ s. (s.seat.me.0.live ≡ true) × (s.seat.me.1 ≡ []) × IsNamed s.seat.me.0.seen.of s.seat.me.0.seen.low s.seat.me.0.seen.high s.seat.me.0.seen.abort };
+    ghost invariant = { λ s. IsSeat s.seat.me };
 }

@@ -1,5 +1,5 @@
 -- What a step requires, for a seat that moves no slot.
-use Rattle.std.proofs.Common.{◌≡◌, ℕ, List, get_or, set, sym, subst}
+use Rattle.std.proofs.Common.{◌≡◌, ℕ, get_or, set, sym, subst}
 use mathlib.Core.Option.{some}
 use lib.ListN.{get_elem?}
 use Rattle.atomic_table.specs.Table.{State, Me, Act, keeps, stepped, Valid, carried_after, Allows}
