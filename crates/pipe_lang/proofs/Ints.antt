@@ -1,5 +1,5 @@
 -- What std's `parse` reads at an int token.
-use Rattle.std.proofs.Common.{◌≡◌, ◌≢◌, ℕ, ◌<◌, ◌≤◌, ◌^◌, ℤ, pos, neg_ℤ, List, [], ◌∷◌, length, drop, get_or, Option, Some, None, Result, Ok, Err, MatchOption, Bor, unwrap_or, refl, sym, subst, arith, w64, lit<, zero, suc}
+use Rattle.std.proofs.Common.{◌≡◌, ◌≢◌, ℕ, ◌<◌, ◌≤◌, ◌^◌, ℤ, pos, neg_ℤ, List, [], ◌∷◌, length, drop, get_or, Option, Some, None, Result, Ok, Err, MatchOption, Bor, unwrap_or, ◌∙◌, refl, sym, subst, arith, w64, lit<, zero, suc}
 use Rattle.std.specs.Result.{OkIff, result_ok}
 use Rattle.std.specs.Str.Parse.{AllDigits, IsNumeral, ParsesSigned, digits_value}
 use Rattle.std.proofs.lemmas.Str.Parse.{IsNumeralModel, numerals_by_value, tells_digits, parse_signed_minus, parse_signed_plain}
@@ -59,3 +59,10 @@ int_back token value i = rw (to_z-of_z {w = w64} (int_fits token value i)) i
 
 pub moves_back : (token : List ℕ) (value : ℤ) → IsInt token value → (of_z w64 value ≡ 0 → ⊥) → to_z w64 (of_z w64 value) ≢ pos 0
 moves_back token value i some = rw (to_z-of_z {w = w64} (int_fits token value i)) (λ e. some (rw e refl))
+
+-- a token has at most one value
+pub int_one : (token : List ℕ) (v w : ℤ) → IsInt token v → IsInt token w → v ≡ w
+int_one token v w (plain n short fits is) (plain m short' fits' is') = is ∙ sym is'
+int_one token v w (plain n short fits is) (minus digits e m short' fits' is') = let d : IsNumeral 10 (45 ∷ digits) = rw e at n in absurd (omega (arith, d.1.0))
+int_one token v w (minus digits e n short fits is) (plain m short' fits' is') = let d : IsNumeral 10 (45 ∷ digits) = rw e at m in absurd (omega (arith, d.1.0))
+int_one token v w (minus digits e n short fits is) (minus digits' e' m short' fits' is') = let same : digits ≡ digits' = cc (e, e') in is ∙ (rw same (sym is'))

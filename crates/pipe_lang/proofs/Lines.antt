@@ -1,12 +1,14 @@
 -- The tokens of a line as texts, and the words and ints that they name.
-use Rattle.std.proofs.Common.{◌≡◌, ◌≢◌, ℕ, ◌<◌, ◌≤◌, ℤ, pos, List, [], ◌∷◌, map, length, get_or, codes, Bor, MatchOption, Option, Some, None, refl, sym, arith}
+use Rattle.std.proofs.Common.{◌≡◌, ◌≢◌, ℕ, ◌<◌, ◌≤◌, ℤ, pos, List, [], ◌∷◌, map, length, get_or, codes, Bor, MatchOption, Option, Some, None, ◌∙◌, refl, sym, arith}
 use Rattle.std.proofs.Common.{w64}
 use Rattle.std.proofs.Math.Facts.{to_z-of_z}
 use mir.Val.{to_z, of_z}
-use Rattle.pipe_lang.proofs.Ints.{int_fits}
+use Rattle.pipe_lang.proofs.Ints.{int_fits, int_one}
 use Rattle.pipe_lang.specs.Tokens.{lines_of, tokens_of, IsInt}
-use Rattle.pipe_lang.specs.Reading.{range_line, filter_line, form_of, IsRange, IsSource, IsFilter, Reads}
-use Rattle.pipe_lang.specs.Plans.{Plan}
+use Rattle.pipe_lang.specs.Reading.{range_line, filter_line, form_of, IsRange, IsSource, IsFilter, Reads, IsReading, remainder_is}
+use Rattle.pipe_lang.specs.declared.pipeline.Kind.TheVariants.{Array}
+use Rattle.pipe_lang.specs.declared.pipeline.Last.TheVariants.{Size}
+use Rattle.pipe_lang.specs.Plans.{Plan, Keeps}
 use Rattle.std.specs.Str.{IsUtf8}
 use Rattle.pipe_lang.specs.declared.pipeline.Source.{Source}
 use Rattle.pipe_lang.specs.declared.pipeline.Source.TheVariants.{Range}
@@ -161,3 +163,31 @@ unread_utf8 text none plan r = none r.utf8
 -- a filter's ints as they are written and read back
 pub filter_back : (tokens : List (List ℕ)) (d e : ℤ) → IsFilter tokens d e → IsFilter tokens (to_z w64 (of_z w64 d)) (to_z w64 (of_z w64 e))
 filter_back tokens d e f = rw (to_z-of_z {w = w64} (int_fits _ d f.d_is), to_z-of_z {w = w64} (int_fits _ e f.e_is)) f
+
+range_one : (tokens : List (List ℕ)) (s t : Source) → IsSource tokens s → IsSource tokens t → s ≡ t
+range_one tokens (Range a b c) (Range x y z) r q =
+    let ints : AreInts r.first r.bound r.stride x y z = range_ints tokens r.first r.bound r.stride x y z r.tokens_are q in
+    let e : a ≡ x = int_one r.first a x r.a_is ints.a_is in
+    let f : b ≡ y = int_one r.bound b y r.b_is ints.b_is in
+    let g : c ≡ z = int_one r.stride c z r.c_is ints.c_is in
+    cc (e, f, g)
+
+filter_one : (tokens : List (List ℕ)) (d e x y : ℤ) → IsFilter tokens d e → IsFilter tokens x y → remainder_is d e ≡ remainder_is x y
+filter_one tokens d e x y f g =
+    let ints : AreTwo f.divisor f.wanted x y = filter_ints tokens f.divisor f.wanted x y f.tokens_are g in
+    let h : d ≡ x = int_one f.divisor d x f.d_is ints.d_is in
+    let k : e ≡ y = int_one f.wanted e y f.e_is ints.e_is in
+    cc (h, k)
+
+-- a text reads as at most one plan
+reads_one : (text : List ℕ) (p q : Plan) → Reads text p → Reads text q → q ≡ p
+reads_one text p q r s =
+    let e : s.source_line ≡ r.source_line = cc (r.lines_are, s.lines_are) in
+    let f : s.step_line ≡ r.step_line = cc (r.lines_are, s.lines_are) in
+    let source : p.source ≡ q.source = range_one (tokens_of r.source_line) p.source q.source r.source_is (rw e at s.source_is) in
+    let tree : remainder_is r.d r.e ≡ remainder_is s.d s.e = filter_one (tokens_of r.step_line) r.d r.e s.d s.e r.filter_is (rw f at s.filter_is) in
+    let same : record { source = q.source; kind = Array; stages = Keeps (remainder_is s.d s.e) ∷ []; last = Size } ≡ record { source = p.source; kind = Array; stages = Keeps (remainder_is r.d r.e) ∷ []; last = Size } = cc (source, tree) in
+    s.plan_is ∙ same ∙ sym r.plan_is
+
+pub reading_of : (text : List ℕ) (plan : Plan) → Reads text plan → IsReading text plan
+reading_of text plan r = record { reads = r; only = λ other s. reads_one text plan other r s }

@@ -63,6 +63,11 @@ pub record Reads (text : List ℕ) (plan : Plan) : Type 0 where
   pub filter_is : IsFilter (tokens_of step_line) d e
   pub plan_is : plan ≡ record { source = plan.source; kind = Array; stages = Keeps (remainder_is d e) ∷ []; last = Size }
 
+-- the text reads as the plan, and as no other
+pub record IsReading (text : List ℕ) (plan : Plan) : Type 0 where
+  pub reads : Reads text plan
+  pub only : (other : Plan) → Reads text other → other ≡ plan
+
 -- no pipeline that is built: line 1, kind 0
 pub record IsUnbuilt (text : List ℕ) (refusal : Refusal) : Type 0 where
   pub unread : (plan : Plan) → ¬ (Reads text plan)

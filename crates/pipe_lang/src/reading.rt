@@ -1,7 +1,7 @@
 //! From the bytes of a text to its pipeline, or its refusal.
 ghost use Rattle.std.specs.Prelude.{◌≡◌, ◌≢◌, ℕ, ℤ, List, [], ◌∷◌, map, IfOk, MatchOption, MatchResult};
 ghost use Rattle.pipe_lang.specs.Plans.{Keeps, plan_of, stage_of, tree_of};
-ghost use Rattle.pipe_lang.specs.Reading.{filter_line, form_of, range_line, IsFilter, IsSource, Reads, Stops, remainder_is};
+ghost use Rattle.pipe_lang.specs.Reading.{filter_line, form_of, range_line, IsFilter, IsReading, IsSource, Stops, remainder_is};
 
 use crate::pipeline::{Expr, Kind, Last, Op, Pipeline, Source, Step};
 use crate::tokens::{int, pieces};
@@ -122,9 +122,9 @@ fn steps(alloc: Global, d: i64, e: i64) -> Result<Vec<Step>, Memory>
     Ok(steps)
 }
 
-/// The pipeline that a text reads as. Every other text is refused on line 1 with kind 0. Linear in the text.
+/// The pipeline that a text reads as, and the only one. Every other text is refused on line 1 with kind 0. Linear in the text.
 pub fn parse(alloc: Global, text: &[u8]) -> Result<Pipeline, ParseStop>
-    ensures { MatchResult result (λ p. Reads text.now (plan_of p)) (Stops text.now) }
+    ensures { MatchResult result (λ p. IsReading text.now (plan_of p)) (Stops text.now) }
 {
     let Ok(text) = str::from_utf8(text) else {
         return Err(ParseStop::Refused(UNBUILT));

@@ -1,5 +1,5 @@
 use Rattle.std.proofs.Common.{◌∙◌, refl, sym}
-use Rattle.pipe_lang.proofs.Lines.{filter_back, unread_utf8, unread_source, unread_filter}
+use Rattle.pipe_lang.proofs.Lines.{filter_back, reading_of, unread_utf8, unread_source, unread_filter}
 use Rattle.pipe_lang.proofs.reading.parse.Goals as goal
 
 pub returns-in_default : goal.returns-in_default
@@ -25,7 +25,7 @@ returns c =
     let form = rw c.deref.ensures.value at c.in-Some.ensures in
     let source = rw (c.deref-2.ensures.value, c.in_ok-pieces.ensures) at c.in-Some-source.ensures in
     let filter = rw (c.deref-3.ensures.value, c.in_ok-pieces-2.ensures) at c.in-Some-filter.ensures in
-    record {
+    reading_of _ _ (record {
       utf8 = c.in-Ok.ensures.cases.1;
       source_line = _;
       step_line = _;
@@ -35,4 +35,4 @@ returns c =
       e = _;
       filter_is = filter_back _ _ _ filter;
       plan_is = rw c.in_ok-steps.ensures refl;
-    }
+    })
