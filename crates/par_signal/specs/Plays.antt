@@ -19,12 +19,15 @@ SeesNow m w m' = m' ≡ (record m.0 { seen = w }, m.1)
 abbrev pub OnLow : (ℕ → Sight (List Bool)) → Step (Unit {0}) → Seated → ℕ → Seated → Type 0
 OnLow w st m x m' = (st.word ≡ 0) × ReadsLow m.0.seen.of m.0.seen x × SeesNow m (w x) m'
 
+-- the same on high
 abbrev pub OnHigh : (ℕ → Sight (List Bool)) → Step (Unit {0}) → Seated → ℕ → Seated → Type 0
 OnHigh w st m x m' = (st.word ≡ 1) × ReadsHigh m.0.seen.of m.0.seen x × SeesNow m (w x) m'
 
+-- the same on abort, whose word x stands for what is read
 abbrev pub OnAbort : (Abort → Sight (List Bool)) → Step (Unit {0}) → Seated → ℕ → Seated → Type 0
 OnAbort w st m x m' = (st.word ≡ 2) × ReadsAbort m.0.seen.of m.0.seen (abort_of x) × SeesNow m (w (abort_of x)) m'
 
+-- loads of the three words
 abbrev pub loaded_low : Step (Unit {0}) → Seated → ℕ → Seated → Type 0
 loaded_low st m = OnLow (sees_low m.0.seen) st m
 
@@ -34,27 +37,30 @@ loaded_high st m = OnHigh (sees_high m.0.seen) st m
 abbrev pub loaded_abort : Step (Unit {0}) → Seated → ℕ → Seated → Type 0
 loaded_abort st m = OnAbort (sees_abort m.0.seen) st m
 
--- fetch-min with the index
+-- `lower` is a fetch-min on low with the index
 abbrev pub lowered : Step (Unit {0}) → Seated → ℕ → Seated → Type 0
 lowered st m = OnLow (lowers m.0.seen st.first) st m
 
--- fetch-max with one above the index
+-- `raise` is a fetch-max on high with one above the index
 abbrev pub raised : Step (Unit {0}) → Seated → ℕ → Seated → Type 0
 raised st m = OnHigh (raises m.0.seen st.first) st m
 
--- compare and exchange of 0 for one above the index
+-- `abort` is a compare and exchange on abort, of 0 for one above the index
 abbrev pub aborted : Step (Unit {0}) → Seated → ℕ → Seated → Type 0
 aborted st m = OnAbort (aborts m.0.seen (st.second - 1)) st m
 
+-- `abort_memory` is a fetch-max on abort with the word of Memory
 abbrev pub memory_aborted : Step (Unit {0}) → Seated → ℕ → Seated → Type 0
 memory_aborted st m = OnAbort (aborts_memory m.0.seen) st m
 
--- a seat cut in two, and two made one
+-- a seat is cut in two: what the old one keeps
 abbrev pub cut_left : Known → Known
 cut_left v = record v { seen = left_of v.seen }
 
+-- what the new one has
 abbrev pub cut_right : Known → Known
 cut_right v = record v { seen = right_of v.seen }
 
+-- two seats are made one
 abbrev pub glued : Known → Known → Known
 glued v w = record v { seen = joined v.seen w.seen }

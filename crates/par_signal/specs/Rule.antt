@@ -70,11 +70,12 @@ pub record Kept (marks : List Bool) (s : State (Unit {0}) Known) : Type 0 where
   pub called : flags.abort ≡ Memory → WasCalled s.views
   pub alone : KeepsAlone s.views
 
--- a seat's view: it is live, no slot is out with it, and what it has seen names marked indexes
+-- what every seat keeps: it is live, no slot is out with it, what it has seen names marked indexes, and where it is alone it has seen Memory only if it called `abort_memory` itself
 pub record IsSeat (m : Me (Unit {0}) Known) : Type 0 where
   pub live : m.0.live ≡ true
   pub bare : m.1 ≡ []
   pub named : IsNamed m.0.seen.of m.0.seen.low m.0.seen.high m.0.seen.abort
+  pub caller : m.0.seen.alone ≡ true → m.0.seen.abort ≡ Memory → m.0.seen.called ≡ true
 
 -- what a seat has seen, with the table that its flags are
 abbrev pub located : TableId → Sight (List Bool) → Seen

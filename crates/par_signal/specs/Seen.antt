@@ -8,7 +8,7 @@ pub record Flags : Type 0 where
   pub table : TableId
   pub marks : List Bool
 
--- the kinds of step on a flag
+-- the kinds of step on a flag, one a call
 pub data Kind : Type 0 where
   load_low : Kind
   load_high : Kind
@@ -18,23 +18,28 @@ pub data Kind : Type 0 where
   abort_by : Kind
   abort_memory : Kind
 
--- one step: its kind, the number of the word (0 low, 1 high, 2 abort), and the value that it read there
+-- one step: its kind, the number of its word (0 low, 1 high, 2 abort), and the value that it read there
 pub record Note : Type 0 where
   pub kind : Kind
   pub word : ℕ
   pub value : ℕ
 
--- of which flags, what was seen of each, whether the seat called `abort_memory`, whether no other seat is there, and the steps that it took
+-- what a seat has seen of some flags
 pub record Sight (F : Type 0) : Type 0 where
+  -- the flags, as far as they are known
   pub of : F
+  -- the last value of each that the seat read or wrote
   pub low : ℕ
   pub high : ℕ
   pub abort : Abort
+  -- whether the seat called `abort_memory`
   pub called : Bool
+  -- whether no other seat is there
   pub alone : Bool
+  -- how many steps the seat took, and a note of each in order
   pub steps : ℕ
   pub notes : List Note
 
--- a seat is what it has seen
+-- a seat is what it has seen of its signals
 abbrev pub Seen : Type 0
 Seen = Sight Flags

@@ -25,6 +25,7 @@ impl Signals {
         requires marked { IsMarked self.now.marks i }
         ensures of { seat.new.of ≡ self.now }
         ensures seen { (a : Abort) × ReadsAbort self.now.marks seat.old a × (seat.new ≡ aborts seat.old i a) }
+        ensures names { IsAbort self.now.marks seat.new.abort }
         ensures set { IsSet seat.new.abort }
         ensures follows { MayFollow seat.old.abort seat.new.abort }
         ensures alone { seat.old.alone ≡ true → seat.new.abort ≡ set_by seat.old.abort i }
@@ -44,7 +45,8 @@ impl Signals {
         shared.fetch_max::<AbortMemory>(&mut seat.seat, ABORT, MEMORY_WORD);
     }
 
-    /// What the flag says. Constant time, and takes no memory.
+    /// What the flag says. `By` always names a marked index, and whatever is set stays set: `By` of the same index, or
+    /// `Memory`. Constant time, and takes no memory.
     pub fn aborted(&self, seat: &mut SignalSeat) -> Abort
         requires { seat.old.of ≡ self.now }
         ensures of { seat.new.of ≡ self.now }
@@ -53,6 +55,8 @@ impl Signals {
         ensures follows { MayFollow seat.old.abort result }
         ensures set { IsSet seat.old.abort → IsSet result }
         ensures alone { seat.old.alone ≡ true → result ≡ seat.old.abort }
+        // Where no other seat is there, Memory comes only where this one called `abort_memory`.
+        ensures caller { seat.old.alone ≡ true → result ≡ Abort.Memory → seat.old.called ≡ true }
     {
         let found = self.table.shared.load::<LoadAbort>(&mut seat.seat, ABORT);
         if found == 0 {

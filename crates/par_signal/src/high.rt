@@ -14,6 +14,7 @@ impl Signals {
         requires marked { IsMarked self.now.marks i }
         ensures of { seat.new.of ≡ self.now }
         ensures seen { (x : ℕ) × ReadsHigh self.now.marks seat.old x × (seat.new ≡ raises seat.old (i + 1) x) }
+        ensures names { IsHigh self.now.marks seat.new.high }
         ensures bound { i + 1 ≤ seat.new.high }
         ensures rises { seat.old.high ≤ seat.new.high }
         ensures alone { seat.old.alone ≡ true → seat.new.high ≡ max seat.old.high (i + 1) }

@@ -14,6 +14,7 @@ impl Signals {
         requires marked { IsMarked self.now.marks i }
         ensures of { seat.new.of ≡ self.now }
         ensures seen { (x : ℕ) × ReadsLow self.now.marks seat.old x × (seat.new ≡ lowers seat.old i x) }
+        ensures names { IsLow self.now.marks seat.new.low }
         ensures bound { seat.new.low ≤ i }
         ensures falls { seat.new.low ≤ seat.old.low }
         ensures alone { seat.old.alone ≡ true → seat.new.low ≡ min seat.old.low i }
@@ -22,7 +23,7 @@ impl Signals {
         shared.fetch_min::<Lower>(&mut seat.seat, LOW, u64::from(i));
     }
 
-    /// The low flag: the number of items, or a marked index. Constant time, and takes no memory.
+    /// The flag: the number of items, or a marked index. Constant time, and takes no memory.
     pub fn low(&self, seat: &mut SignalSeat) -> u32
         requires { seat.old.of ≡ self.now }
         ensures of { seat.new.of ≡ self.now }

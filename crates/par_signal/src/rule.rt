@@ -31,12 +31,12 @@ impl Model for View {
 }
 
 /// The rule of the flags. Its key tells the marks.
-pub struct Flags;
+pub struct FlagRule;
 
 /// The seat of a table whose one use is that this seat's view has the marks.
 pub type Told = Snapshot<Seat<(), View>>;
 
-impl TableRule<(), View, Told> for Flags {
+impl TableRule<(), View, Told> for FlagRule {
     ghost holds = { λ key. Kept key.value.me.0.seen.of };
 
     ghost first = { λ key. begun key.value.me.0.seen.of };

@@ -3,7 +3,7 @@ ghost use Rattle.std.specs.Prelude.{◌≡◌, ◌≤◌, IfOk, length};
 ghost use Rattle.par_signal.specs.Calls.{opened, left_of, right_of, joined};
 
 use crate::marks::Marks;
-use crate::rule::{Cut, Flags, Glue, Telling, Tells, Told, View};
+use crate::rule::{Cut, FlagRule, Glue, Telling, Tells, Told, View};
 use crate::signals::{SignalSeat, Signals};
 use atomic_table::Table;
 use par_laws::Memory;
@@ -22,7 +22,8 @@ fn tell<M: Marks, B: Telling>(alloc: Global, marks: &M) -> Result<Told, AllocErr
 }
 
 impl Signals {
-    /// Opens flags over these marks: low is `n`, high 0 and abort `No`. The seat has seen just that, and is alone.
+    /// Opens flags over the marks of `n` items: low is `n`, high 0 and abort `No`. The seat has seen just that, and is
+    /// alone until another is split from it. Constant time: the marks are neither read nor copied.
     pub fn open<M: Marks>(alloc: Global, marks: &M, n: u32) -> Result<(Signals, SignalSeat), Memory>
         requires length { length (M.marks marks.now) ≡ n }
         requires few { n ≤ 4194304 }
@@ -33,7 +34,7 @@ impl Signals {
             return Err(Memory);
         };
         let words = [u64::from(n), 0, 0];
-        let Ok((table, seat)) = Table::<(), View, Told, Flags, Global>::of_words(
+        let Ok((table, seat)) = Table::<(), View, Told, FlagRule, Global>::of_words(
             alloc, &words, &told,
         ) else {
             return Err(Memory);
@@ -42,7 +43,7 @@ impl Signals {
     }
 
     /// A new seat, for another thread. It has seen what the old one has, and from then on neither is alone.
-    /// Constant time; as it stands it always succeeds.
+    /// Constant time.
     pub fn split_seat(&self, _alloc: Global, seat: &mut SignalSeat) -> Result<SignalSeat, Memory>
         requires { seat.old.of ≡ self.now }
         ensures of { seat.new.of ≡ self.now }
@@ -54,7 +55,7 @@ impl Signals {
     }
 
     /// Gives a seat up to another, which has then seen the lesser low, the greater high and the greater abort.
-    /// Constant time; as it stands it always succeeds.
+    /// It takes no step on a flag, and the steps of the seat that is given up are forgotten. Constant time.
     pub fn join_seat(&self, seat: &mut SignalSeat, other: SignalSeat) -> Result<(), Memory>
         requires seat { seat.old.of ≡ self.now }
         requires other { other.of ≡ self.now }

@@ -1,13 +1,14 @@
 //! The signals and their seats, and what contracts see of them.
-use crate::rule::{Flags, Told, View};
+use crate::rule::{FlagRule, Told, View};
 use atomic_table::{Seat, Table};
 use std::alloc::Global;
 use std::marker::Model;
 
-/// The three flags, which threads share through a `&`. Contracts see which flags they are, and their marks.
+/// The three flags, which threads share through a `&`. Contracts see which flags these are, and their marks.
+/// Every call with a seat asks that it is a seat of these flags; those of `open` and `split_seat` are, and stay so.
 #[derive(Drop)]
 pub struct Signals {
-    pub(crate) table: Table<(), View, Told, Flags, Global>,
+    pub(crate) table: Table<(), View, Told, FlagRule, Global>,
 }
 
 impl Model for Signals {
@@ -21,7 +22,8 @@ impl Model for Signals {
     ghost invariant = { λ s. (s.table.shared.table_id.words ≡ 3) × (length s.table.shared.key.value.me.0.seen.of ≤ 4194304) };
 }
 
-/// What one thread has seen of the flags, and its leave to step on them. It has no bytes.
+/// A thread's leave to step on the flags. Contracts see what it has seen of each flag and the steps that it took.
+/// It has no bytes.
 #[derive(Drop)]
 pub struct SignalSeat {
     pub(crate) seat: Seat<(), View>,
