@@ -1,6 +1,5 @@
 -- How rulings and answers compose.
 use Rattle.std.proofs.Common.{◌≡◌, ◌≢◌, ◌∙◌, refl, ◌≤◌, Option, Some, None, Result, Ok, Err, IfErr, List, [], ◌∷◌, length, suc, ℤ, arith}
-use Rattle.par_edge.specs.Count.{Rose}
 use Rattle.par_edge.specs.Files.{File, IfTold}
 use Rattle.par_edge.specs.Shelves.{ShelfState, IsLaterShelf}
 use Rattle.pipe_lang.specs.Plans.{Stage}

@@ -1,20 +1,19 @@
 -- How a run ends by what was answered and written, and that words and files have at most one ruling.
-use Rattle.std.proofs.Common.{◌≡◌, ◌≢◌, ◌∙◌, sym, refl, ap, ℕ, ◌≤◌, ◌<◌, ◌↔◌, inl, inr, Option, Some, None, Result, Ok, Err, arith, List, [], ◌∷◌, length, ℤ}
+use Rattle.std.proofs.Common.{◌≡◌, ◌∙◌, sym, refl, ap, ℕ, ◌<◌, ◌↔◌, inl, inr, Option, Some, None, Result, Ok, Err, arith, List, [], ◌∷◌, length, ℤ}
 use Rattle.par_edge.specs.Count.{Rose}
-use Rattle.par_edge.specs.Files.{File, IfTold, IsLonger, file_of}
-use Rattle.par_edge.specs.Shelves.{ShelfState, IsLaterShelf}
+use Rattle.par_edge.specs.Files.{File, IfTold}
+use Rattle.par_edge.specs.Shelves.{ShelfState}
 use Rattle.par_edge.specs.Sinks.{SinkState, Appends, AppendsPart}
-use Rattle.pipe_lang.specs.Plans.{Plan, Stage, Keeps}
-use Rattle.pipe_lang.specs.Reading.{IsReading, IsUnbuilt}
+use Rattle.pipe_lang.specs.Plans.{Stage, Keeps}
 use Rattle.pipe_lang.specs.declared.pipeline.Last.{Last}
 use Rattle.pipe_lang.specs.declared.pipeline.Last.TheVariants.{Size}
 use Rattle.pipe_run.specs.Rulings.{Then, Answers}
 use Rattle.pipe_run.specs.Rulings.Then.{stops, goes}
-use Rattle.pipe_run.specs.Stages.{IsRows, IsStage, IsStaged, IsText}
+use Rattle.pipe_run.specs.Stages.{IsStage, IsStaged, IsText}
 use Rattle.pipe_run.specs.Words.{Asked}
 use Rattle.pipe_run.specs.Outcomes.{status_of}
-use Rattle.pipe_run.specs.Answers.{IsPipelineText, IsPlan, IsAnswer, IsRuling}
-use Rattle.pipe_run.specs.Endings.{Ends, EndsBy, Refuses, IsWritten, IsExact, status_of_ruling}
+use Rattle.pipe_run.specs.Answers.{IsPipelineText, IsPlan, IsRuling}
+use Rattle.pipe_run.specs.Endings.{Ends, EndsBy, IsExact, status_of_ruling}
 use Rattle.pipe_run.proofs.Deciding.{told, told_const}
 use Rattle.pipe_run.proofs.Rows.{rows_one}
 use Rattle.pipe_run.specs.declared.outcome.Outcome.{Outcome}

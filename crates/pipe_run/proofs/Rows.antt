@@ -1,8 +1,10 @@
 -- A range has one list of rows.
-use Rattle.std.proofs.Common.{◌≡◌, ◌∙◌, refl, sym, ap, ℕ, ◌<◌, ◌≤◌, ◌⊎◌, ⊎_elim, ℤ, List, length, Result, Ok, Err, arith}
+use Rattle.std.proofs.Common.{◌≡◌, ◌∙◌, sym, ap, ℕ, ◌<◌, ◌≤◌, ℤ, List, length, map, Result, Ok, Err, arith}
 use Rattle.par_splitter.specs.Range.{IsRange, IsRangeCount, stepped}
 use Rattle.pipe_lang.specs.declared.pipeline.Source.{Source}
 use Rattle.pipe_lang.specs.declared.pipeline.Source.TheVariants.{Range}
+use Rattle.std.proofs.lemmas.List.{map-id}
+use Rattle.pipe_run.specs.Rulings.{Decides}
 use Rattle.pipe_run.specs.Stages.{IsRows}
 use Rattle.pipe_run.specs.declared.outcome.Outcome.{Outcome}
 
@@ -31,3 +33,11 @@ rows_one (Range a b c) (Err o) (Ok ys) h k =
     let few = k.1 in
     let many = h.2 in
     absurd (omega (arith, same, few, many))
+
+-- the items of a range that isn't too long are the rows of the source
+pub rows_given : (a b c : ℤ) (n : ℕ) (rows items : List ℤ) → IsRangeCount a b c n → n ≤ 4194304 → IsRange a b c items → map (λ x. x) rows ≡ items → Decides (IsRows (Range a b c)) (Ok rows)
+rows_given a b c n rows items count few range same =
+    let is : rows ≡ items = sym (map-id rows) ∙ same in
+    let rows_range : IsRange a b c rows = rw is range in
+    let e : length rows ≡ n = count_one a b c (length rows) n rows_range.count count in
+    record { ruled = (rows_range, omega (arith, e, few)); inner = tt }

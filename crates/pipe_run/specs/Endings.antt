@@ -7,7 +7,7 @@ use Rattle.par_edge.specs.Count.{Rose}
 use Rattle.pipe_run.specs.Outcomes.{status_of, line_of}
 use Rattle.pipe_run.specs.Rulings.{Shows, UnlessFree}
 use Rattle.pipe_run.specs.declared.outcome.Outcome.{Outcome}
-use Rattle.pipe_run.specs.declared.outcome.Outcome.TheVariants.{Done, Usage, BadPipeline, ReadFault, WriteFault, Memory}
+use Rattle.pipe_run.specs.declared.outcome.Outcome.TheVariants.{Done, Usage, WriteFault}
 
 -- the text of the ruling, of which this much was appended
 pub record IsWritten (rule : List File → Result (List ℕ) Outcome → Type 0) (appended : List ℕ → Type 0) (files : List File) : Type 0 where

@@ -4,7 +4,7 @@ use Rattle.par_edge.specs.Count.{Rose}
 use Rattle.par_edge.specs.Files.{File, IfTold}
 use Rattle.par_edge.specs.Shelves.{ShelfState, IsLaterShelf}
 use Rattle.pipe_run.specs.declared.outcome.Outcome.{Outcome}
-use Rattle.pipe_run.specs.declared.outcome.Outcome.TheVariants.{Done, Usage, BadPipeline, ReadFault, WriteFault, Memory}
+use Rattle.pipe_run.specs.declared.outcome.Outcome.TheVariants.{BadPipeline, ReadFault, WriteFault, Memory}
 
 -- the first question is refused, or its value goes to the second
 pub data Then {A B : Type 0} (first : Result A Outcome → Type 0) (second : A → Result B Outcome → Type 0) (r : Result B Outcome) : Type 0 where

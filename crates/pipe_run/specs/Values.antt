@@ -1,5 +1,5 @@
 -- The value of an expression at a row, which is a number.
-use Rattle.std.specs.Prelude.{ℕ, zero, suc, ℤ, pos, negsuc, Bool, false, int_rem}
+use Rattle.std.specs.Prelude.{zero, suc, ℤ, pos, negsuc, Bool, false, int_rem}
 use Rattle.std.specs.Ordering.{int_eq}
 use Rattle.pipe_lang.specs.Plans.{Tree, Number, Named, Joined}
 use Rattle.pipe_lang.specs.declared.pipeline.Op.TheVariants.{Equal, Remainder}

@@ -29,33 +29,36 @@ fn write_pieces<E: Sink>(err: &mut E, pieces: &[&[u8]]) -> Result<(), Failed>
     Ok(())
 }
 
+// Writes the line of an outcome, and stops at the first fault.
+fn write_line<E: Sink>(err: &mut E, outcome: &Outcome) -> Result<(), Failed>
+    ensures { MatchResult result (λ _. Appends (E.state err.old) (E.state err.new) (line_of outcome.now)) (λ _. AppendsPart (E.state err.old) (E.state err.new) (line_of outcome.now)) }
+{
+    match outcome {
+        Outcome::Done => Ok(()),
+        Outcome::Usage => write_whole(
+            err,
+            b"usage: parcoll run PIPE [DATA] [--workers N] [--level N] [--audit] | check PIPE | gen SEED N\n",
+        ),
+        Outcome::BadPipeline { line, kind } => {
+            let mut number = Buffer::new();
+            let pieces: [&[u8]; 5] = [
+                b"parcoll: pipeline line ",
+                number.format(*line).as_bytes(),
+                b": ",
+                word(*kind),
+                b"\n",
+            ];
+            write_pieces(err, &pieces)
+        }
+        Outcome::ReadFault => write_whole(err, b"parcoll: read failed\n"),
+        Outcome::WriteFault => write_whole(err, b"parcoll: write failed\n"),
+        Outcome::Memory => write_whole(err, b"parcoll: out of memory\n"),
+    }
+}
+
 /// Writes the line of an outcome. A fault is passed over: then a prefix of the line is written. Takes no memory.
 pub fn say<E: Sink>(err: &mut E, outcome: &Outcome)
     ensures { Said (line_of outcome.now) (E.state err.old) (E.state err.new) }
 {
-    let _ = match outcome {
-        Outcome::Done => Ok(()),
-        Outcome::Usage => write_pieces(
-            err,
-            &[
-                b"usage: parcoll run PIPE [DATA] [--workers N] [--level N] [--audit] | check PIPE | gen SEED N\n",
-            ],
-        ),
-        Outcome::BadPipeline { line, kind } => {
-            let mut number = Buffer::new();
-            write_pieces(
-                err,
-                &[
-                    b"parcoll: pipeline line ",
-                    number.format(*line).as_bytes(),
-                    b": ",
-                    word(*kind),
-                    b"\n",
-                ],
-            )
-        }
-        Outcome::ReadFault => write_pieces(err, &[b"parcoll: read failed\n"]),
-        Outcome::WriteFault => write_pieces(err, &[b"parcoll: write failed\n"]),
-        Outcome::Memory => write_pieces(err, &[b"parcoll: out of memory\n"]),
-    };
+    let _ = write_line(err, outcome);
 }
