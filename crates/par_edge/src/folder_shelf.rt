@@ -1,7 +1,7 @@
 ghost use Rattle.std.specs.Prelude.{◌≡◌, ◌≤◌, IfOk, length};
 
 use crate::{Failed, Shelf};
-use std::fs::{self};
+use std::fs;
 use std::io::{self, Read, Seek, SeekFrom};
 use std::rt::Files;
 
@@ -97,7 +97,7 @@ impl<F: Read + Seek + Drop> Opened<F> {
 }
 
 /// The name of a file, at most as long as the system allows.
-#[derive(Clone, Copy)]
+#[derive(Drop)]
 struct Name {
     bytes: [u8; LONGEST_NAME],
     len: usize,
