@@ -1,8 +1,9 @@
-ghost use Rattle.std.specs.Prelude.{◌≡◌, ◌≤◌, IfOk, length};
+ghost use Rattle.std.specs.Prelude.{◌≡◌, ◌<◌, ◌≤◌, ◌↔◌, IfOk, IsErr, IsTrue, length};
 
 use crate::{Failed, Shelf};
-use std::fs::{self};
+use std::fs;
 use std::io::{self, Read, Seek, SeekFrom};
+use std::marker::Model;
 use std::rt::Files;
 
 /// The longest name that the system opens, in bytes.
@@ -96,17 +97,29 @@ impl<F: Read + Seek + Drop> Opened<F> {
     }
 }
 
-/// The name of a file, at most as long as the system allows.
-#[derive(Clone, Copy)]
+/// The name of a file, at most as long as the system allows. Contracts see its bytes.
+#[derive(Drop)]
 struct Name {
     bytes: [u8; LONGEST_NAME],
     len: usize,
-    ghost fits: { len ≤ 4095 },
+}
+
+impl Model for Name {
+    ghost use Rattle.std.specs.Prelude.{List, ℕ, ◌≤◌, take};
+
+    ghost Value = { List ℕ };
+
+    ghost view = { λ n. take n.len n.bytes };
+
+    ghost invariant = { λ n. n.len ≤ 4095 };
 }
 
 impl Name {
     /// Refuses a name that the system would refuse for its length.
-    fn of(name: &str) -> io::Result<Name> {
+    fn of(name: &str) -> io::Result<Name>
+        ensures same { IfOk result (λ kept. kept ≡ name.now) }
+        ensures too_long { IsErr result ↔ (LONGEST_NAME < length name.now) }
+    {
         if name.len() > LONGEST_NAME {
             return Err(io::Error::from(io::ErrorKind::InvalidFilename));
         }
@@ -118,7 +131,9 @@ impl Name {
         })
     }
 
-    fn is(&self, name: &str) -> bool {
+    fn is(&self, name: &str) -> bool
+        ensures { IsTrue result ↔ (self.now ≡ name.now) }
+    {
         &self.bytes[..self.len] == name.as_bytes()
     }
 }
