@@ -36,6 +36,12 @@ pub fn scan_laws<A, B>()
     ensures index { zip_with_index {X = ℕ} (7 ∷ 8 ∷ []) ≡ (7, 0) ∷ (8, 1) ∷ [] }
 {}
 
+/// The law of folds in parts. It does nothing: the law is its contract.
+pub fn fold_laws<A, B>()
+    // where to add to two joined values is to add to the second, a fold of two lists is their folds joined
+    ensures in_parts { (join : B → B → B) (add : B → A → B) → ((a b : B) (x : A) → add (join a b) x ≡ join a (add b x)) → (unit : B) (xs ys : List A) → join (fold add unit xs) unit ≡ fold add unit xs → fold add unit (xs ++ ys) ≡ join (fold add unit xs) (fold add unit ys) }
+{}
+
 /// The laws of groups. It does nothing: the laws are its contract.
 pub fn group_laws()
     ensures first_of_each { distinct nat_eq (3 ∷ 1 ∷ 3 ∷ 2 ∷ 1 ∷ []) ≡ 3 ∷ 1 ∷ 2 ∷ [] }

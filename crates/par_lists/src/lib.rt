@@ -12,7 +12,7 @@
 mod laws;
 mod places;
 
-pub use laws::{cut_laws, group_laws, scan_laws, search_laws};
+pub use laws::{cut_laws, fold_laws, group_laws, scan_laws, search_laws};
 pub use places::{index_of, place_of};
 
 #[cfg(test)]

@@ -10,6 +10,7 @@ fn indexes_and_places(rt: HostRuntime) {
         (-1, 0, 9)
     );
     cut_laws::<u8>();
+    fold_laws::<u8, u8>();
     group_laws();
     scan_laws::<u8, u8>();
     search_laws();

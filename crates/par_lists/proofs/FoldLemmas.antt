@@ -1,4 +1,4 @@
--- Folds in parts, from the laws of a monoid and of what gathers into it.
+-- Folds in parts.
 use Rattle.std.proofs.Common.{◌≡◌, List, [], ◌∷◌, ◌++◌, fold, refl, ap, sym, ◌∙◌}
 use Rattle.std.proofs.lemmas.List.Sums.{fold-append}
 
