@@ -14,3 +14,6 @@ mod tokens;
 
 pub use pipeline::{Expr, Kind, Last, Op, Pipeline, Source, Step};
 pub use reading::{ParseStop, Refusal, parse};
+
+#[cfg(test)]
+mod tests;

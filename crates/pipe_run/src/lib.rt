@@ -22,3 +22,6 @@ mod words;
 pub use outcome::{Outcome, status};
 pub use program::parcoll;
 pub use run::run_alone_main;
+
+#[cfg(test)]
+mod tests;
