@@ -1,5 +1,5 @@
 -- Parts by a list of sizes, while they are cut.
-use Rattle.std.proofs.Common.{◌≡◌, ℕ, zero, suc, ◌+◌, ◌<◌, ◌≤◌, min, List, [], ◌∷◌, ◌++◌, length, map, take, drop, refl, sym, ◌∙◌, ap, arith, append_assoc, append-nil}
+use Rattle.std.proofs.Common.{◌≡◌, ℕ, zero, suc, ◌<◌, min, List, [], ◌∷◌, ◌++◌, length, map, take, drop, refl, sym, ◌∙◌, ap, arith, append_assoc, append-nil}
 use Rattle.std.proofs.lemmas.List.{map-append, nil_from_length}
 use Rattle.par_splitter.specs.Parts.{IsCutAt}
 use Rattle.par_splitter.specs.Sizes.{cut_by, starts, ArePartsBySize}
@@ -33,7 +33,7 @@ module _ {S X : Type 0} (items : S → List X) (lo : S → ℕ) where
       let next : cut_by waiting (items rest) ≡ items a ∷ cut_by more (items b) = rw (e, cut.parts.joined) (rw (h.0, h.1) refl) in
       record {
         lists = so_far.lists ∙ rw (next, map-append, append_assoc) refl;
-        places = so_far.places ∙ rw (next, map-append, append_assoc, cut.parts.lo_left, cut.parts.lo_right) refl
+        places = so_far.places ∙ rw (next, map-append, append_assoc, cut.parts.lo_left, cut.parts.lo_right) refl;
       }
 
   -- nothing is left over
@@ -43,7 +43,7 @@ module _ {S X : Type 0} (items : S → List X) (lo : S → ℕ) where
       let next : cut_by waiting (items rest) ≡ [] = rw (e, n) refl in
       record {
         lists = sym (so_far.lists ∙ rw (next, append-nil) refl);
-        places = sym (so_far.places ∙ rw (next, append-nil) refl)
+        places = sym (so_far.places ∙ rw (next, append-nil) refl);
       }
 
   -- the rest is the last part
@@ -52,5 +52,5 @@ module _ {S X : Type 0} (items : S → List X) (lo : S → ℕ) where
       let next : cut_by waiting (items rest) ≡ items rest ∷ [] = rw e (left_over (items rest) some) in
       record {
         lists = sym (so_far.lists ∙ rw (next, map-append) refl);
-        places = sym (so_far.places ∙ rw (next, map-append) refl)
+        places = sym (so_far.places ∙ rw (next, map-append) refl);
       }

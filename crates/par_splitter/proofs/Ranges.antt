@@ -1,5 +1,5 @@
 -- How many numbers a range has, and how its list is taken apart.
-use Rattle.std.proofs.Common.{◌≡◌, ◌≢◌, ℕ, zero, suc, ◌+◌, ◌-◌, ◌*◌, ◌/◌, ◌%◌, ◌<◌, ◌≤◌, min, refl, sym, ◌∙◌, subst, ap, arith, ℤ, pos, negsuc, neg_ℤ, ◌+ℤ◌, ◌-ℤ◌, ◌*ℤ◌, ◌<ℤ◌, ◌≤ℤ◌}
+use Rattle.std.proofs.Common.{◌≡◌, ◌≢◌, ℕ, zero, suc, ◌*◌, ◌<◌, ◌≤◌, refl, sym, ◌∙◌, arith, ℤ, pos, negsuc, neg_ℤ, ◌+ℤ◌, ◌-ℤ◌, ◌*ℤ◌, ◌<ℤ◌, ◌≤ℤ◌}
 use Rattle.std.specs.Prelude.{unsigned_abs}
 use Rattle.std.specs.Int.{div_ceil}
 use Rattle.std.proofs.Math.Nat.{mul-le-mul_right}
@@ -34,7 +34,7 @@ up_count a b d m some e = record {
       let k : d ≤ div_ceil d m * m = (div_ceil_times d m some).0 in
       let u : pos 0 <ℤ pos m = omega (arith, ints) in
       let l : (a +ℤ pos (div_ceil d m * m)) <ℤ b = h.0 u in
-      omega (arith, ints)
+      omega (arith, ints);
 }
 
 -- counting down from a, to a number d below it
@@ -45,7 +45,7 @@ down_count a b d k e = record {
       let l : d ≤ div_ceil d (suc k) * suc k = (div_ceil_times d (suc k) (omega arith)).0 in
       let u : negsuc k <ℤ pos 0 = omega (arith, ints) in
       let r : b <ℤ (a +ℤ neg_ℤ (pos (div_ceil d (suc k) * suc k))) = h.1 u in
-      omega (arith, ints)
+      omega (arith, ints);
 }
 
 counted : (a b c : ℤ) → c ≢ pos 0 → IsBefore c a b → IsRangeCount a b c (div_ceil (unsigned_abs (a -ℤ b)) (unsigned_abs c))
@@ -60,7 +60,7 @@ none_counted a b c out = record {
   inside = λ i h. absurd (omega arith);
   ended = λ h.
       let e : a +ℤ pos 0 *ℤ c ≡ a = rw zero-*ℤ (+ℤ_idr a) in
-      out (rw e at h)
+      out (rw e at h);
 }
 
 -- the same two, where the code has each number in its bits

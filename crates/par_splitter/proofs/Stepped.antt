@@ -1,9 +1,7 @@
 -- The list of a range is taken apart at any place.
-use Rattle.std.proofs.Common.{◌≡◌, ℕ, zero, suc, ◌+◌, ◌-◌, ◌*◌, ◌<◌, ◌≤◌, List, [], ◌∷◌, ◌++◌, length, map, append-nil, refl, sym, ◌∙◌, ap, arith, ℤ, pos, negsuc, neg_ℤ, ◌+ℤ◌, ◌*ℤ◌}
-use Rattle.std.specs.Prelude.{FitsSigned}
-use Rattle.std.specs.Int.{w64, int_wrap}
+use Rattle.std.proofs.Common.{◌≡◌, ℕ, zero, suc, ◌+◌, ◌∷◌, ◌++◌, length, map, append-nil, refl, sym, ◌∙◌, ap, arith, ℤ, pos, negsuc, ◌+ℤ◌, ◌*ℤ◌}
 use Rattle.std.specs.List.{range_with_len}
-use Rattle.std.proofs.lemmas.Int.{ints, int_wrap_fits}
+use Rattle.std.proofs.lemmas.Int.{ints}
 use Rattle.std.proofs.lemmas.List.FromFn.{length-map-range_with_len}
 use Rattle.std.proofs.Math.IntN.{zero-*ℤ, +ℤ_idr}
 use Rattle.par_splitter.specs.Range.{AllFit, IsRange, IsRangeCount, IsReached, stepped}
@@ -46,9 +44,9 @@ stepped_apart a c x k (suc m) n fit e reach =
     let of_a : ℕ → ℤ = λ i. a +ℤ pos i *ℤ c in
     let of_x : ℕ → ℤ = λ i. x +ℤ pos i *ℤ c in
     let same : (t : ℕ) → of_a (0 + k + t) ≡ of_x (0 + t) = λ t.
-      (let l : 0 + k + t ≡ k + t = omega arith in
-       let r : 0 + t ≡ t = omega arith in
-       rw (l, r, is) (step_sum a c k t)) in
+    (let l : 0 + k + t ≡ k + t = omega arith in
+    let r : 0 + t ≡ t = omega arith in
+    rw (l, r, is) (step_sum a c k t)) in
     rw f (two_runs of_a 0 k (suc m) ∙ ap (λ xs. stepped a c k ++ xs) (same_values of_a of_x (0 + k) 0 (suc m) same))
 
 first_number : (a c : ℤ) → a +ℤ pos 0 *ℤ c ≡ a
