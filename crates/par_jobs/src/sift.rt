@@ -1,0 +1,110 @@
+//! A job that tests every item.
+ghost use Rattle.std.specs.Prelude.{◌≡◌, ℕ, ◌≤◌, ◌<◌, ◌^◌, length, map, IfOk};
+
+use crate::builder::Builder;
+use crate::fault::note_fault;
+use par_laws::{FaultAt, Memory, Probe, Shown, Test, Verdict};
+use par_signal::{SignalSeat, Signals};
+use par_splitter::Splitter;
+use par_task::{Done, Job, Marked};
+use std::alloc::Global;
+
+/// What was built of the items that pass and of those that fail; or the least fault, where an item faults.
+#[derive(Drop)]
+pub enum Sifted<A, B> {
+    Got(A, B),
+    Fell(FaultAt),
+}
+
+impl<A: Shown, B: Shown> Shown for Sifted<A, B> {
+    ghost use Rattle.par_jobs.specs.Merges.{sifted_shown};
+
+    type Value = Sifted<A::Value, B::Value>;
+
+    ghost shown = { λ p. sifted_shown A.shown B.shown p };
+}
+
+/// Builds of the items that pass, and of those that fail.
+#[derive(Drop)]
+pub struct SiftJob<'a, S: Splitter, P: Test<S::Item>, A, B> {
+    pub marked: Marked<'a, S, P>,
+    pub passing: &'a A,
+    pub failing: &'a B,
+    pub ghost small: { length (S.items marked.split) ≤ 4194304 },
+}
+
+impl<'a, S: Splitter + Send, P: Test<S::Item> + Send + Sync, A: Builder<S::Item>, B: Builder<S::Item>> Job
+    for SiftJob<'a, S, P, A, B> {
+    ghost use Rattle.std.proofs.Common.{sym, ◌∙◌};
+    ghost use Rattle.par_task.specs.Marking.{no_flag};
+    ghost use Rattle.par_jobs.specs.Merges.{IsSiftedOf, sifted_merge, sifted_joins};
+
+    type Split = S;
+
+    type Pred = P;
+
+    type Part = Sifted<A::Built, B::Built>;
+
+    ghost kind = { no_flag };
+
+    ghost source = { λ j. S.items j.marked.split };
+
+    ghost verdicts = { λ j. map (P.verdict j.marked.inner) (S.items j.marked.split) };
+
+    ghost good = { λ j lo hi p. IsSiftedOf (P.verdict j.marked.inner) (A.built j.passing.now) (B.built j.failing.now) (S.items j.marked.split) lo hi p };
+
+    ghost merges = { λ j a b c. c ≡ sifted_merge (A.joined j.passing.now) (B.joined j.failing.now) a b };
+
+    fn leaf(
+        &self,
+        alloc: Global,
+        mut input: S,
+        probe: &mut Probe<'_, P>,
+        _signals: &Signals,
+        _seat: &mut SignalSeat,
+    ) -> Result<Done<Sifted<A::Built, B::Built>>, Memory> {
+        let (lo, _) = input.span();
+        let mut at = lo;
+        let mut passing = self.passing.start(alloc)?;
+        let mut failing = self.failing.start(alloc)?;
+        let mut fault: Option<FaultAt> = None;
+        while let Some(item) = input.next() {
+            let verdict = probe.test(&item);
+            fault = note_fault(fault, verdict, at);
+            at += 1;
+            match verdict {
+                Verdict::Pass => passing = self.passing.add(alloc, passing, &item)?,
+                Verdict::Fail => failing = self.failing.add(alloc, failing, &item)?,
+                Verdict::Fault(_) => {}
+            }
+        }
+        let part = match fault {
+            None => Sifted::Got(passing, failing),
+            Some(fault) => Sifted::Fell(fault),
+        };
+        Ok(Done {
+            part,
+            flag: self.marked.count(),
+        })
+    }
+
+    fn merge(
+        &self,
+        left: Sifted<A::Built, B::Built>,
+        right: Sifted<A::Built, B::Built>,
+    ) -> Result<Sifted<A::Built, B::Built>, Memory> {
+        match (left, right) {
+            (Sifted::Got(a, b), Sifted::Got(c, d)) => {
+                let passing = self.passing.join(a, c)?;
+                let failing = self.failing.join(b, d)?;
+                Ok(Sifted::Got(passing, failing))
+            }
+            (Sifted::Fell(fault), _) => Ok(Sifted::Fell(fault)),
+            (Sifted::Got(_, _), Sifted::Fell(fault)) => Ok(Sifted::Fell(fault)),
+        }
+    }
+
+    ghost joins = { λ j lo mid hi a b c h k l p q m. sifted_joins (P.verdict j.marked.inner) (A.built j.passing.now) (B.built j.failing.now) (A.joined j.passing.now) (B.joined j.failing.now) (A.joins j.passing.now) (B.joins j.failing.now) _ lo mid hi a b c h k p q m };
+
+    ghost one_merge = { λ j a b c d p q. p ∙ sym q };
+}
