@@ -3,7 +3,9 @@ use Rattle.std.proofs.Common.{◌≡◌, ℕ, ◌+◌, ◌-◌, ◌≤◌, ◌<�
 use Rattle.std.proofs.lemmas.Bool.{cases_lt, false≢true}
 use Rattle.std.proofs.lemmas.List.{length-take, length-drop, take_more, get_or-drop}
 use Rattle.par_laws.specs.Marks.{IsMarked, Clear, stop}
-use Rattle.par_signal.specs.Seen.{Seen, IsSet}
+use Rattle.par_signal.specs.Seen.{Seen}
+use Rattle.par_signal.specs.Values.{IsSet}
+use Rattle.par_signal.specs.Calls.{sees_low, lowers}
 use Rattle.par_task.specs.Spans.{IsSpan}
 use Rattle.par_task.specs.Seats.{IsLater, IsFresh}
 use Rattle.par_task.specs.Parts.{between, IsFront}
@@ -88,4 +90,18 @@ pub low_read_fresh : (old new : Seen) → IsLowRead old new → old.alone ≡ tr
 low_read_fresh old new r a f = record {
   low = r.still a ∙ (f.low ∙ ap (λ v. length v.marks) (sym r.of));
   abort = subst (λ v. ¬ IsSet v) (sym r.abort) f.abort;
+}
+
+-- what a load of the low flag tells
+pub low_read : (old new : Seen) (x : ℕ) → new ≡ sees_low old x → x ≤ old.low → (old.alone ≡ true → x ≡ old.low) → IsLowRead old new
+low_read old new x e h a = subst (λ (v : Seen). IsLowRead old v) (sym e) (record { of = refl; low = h; high = refl; abort = refl; alone = refl; still = a })
+
+-- and a lowering
+pub lower_later : (old new : Seen) (i x : ℕ) → new ≡ lowers old i x → new.low ≤ old.low → IsLater old new
+lower_later old new i x e h = record {
+  of = ap (λ (v : Seen). v.of) e;
+  low = h;
+  high = omega (arith, ap (λ (v : Seen). v.high) e);
+  abort = λ s. subst IsSet (sym (ap (λ (v : Seen). v.abort) e)) s;
+  alone = λ a. ap (λ (v : Seen). v.alone) e ∙ a;
 }

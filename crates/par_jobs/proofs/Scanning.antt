@@ -5,7 +5,8 @@ use Rattle.std.proofs.lemmas.List.{get_or-drop, get_or-take, get_or-map, length-
 use Rattle.par_laws.specs.declared.test.Verdict.{Verdict}
 use Rattle.par_laws.specs.declared.test.Verdict.TheVariants.{Fail}
 use Rattle.par_laws.specs.Marks.{IsMarked, Clear, stop}
-use Rattle.par_signal.specs.Seen.{Seen, IsSet}
+use Rattle.par_signal.specs.Seen.{Seen}
+use Rattle.par_signal.specs.Values.{IsSet}
 use Rattle.par_task.specs.Marking.{Kind, low_flag, abort_flag, marks_of, is_mark}
 use Rattle.par_task.specs.Spans.{IsSpan}
 use Rattle.par_task.specs.Leaves.{EndsMarked, IsReadAgain, IsScan, IsSkipOrScan, IsLowLeaf, IsAbortLeaf, AnyMarked, IsLawful}
@@ -97,7 +98,7 @@ later_join a b c p q = record {
 -- ways out of a leaf that reads the abort flag
 module _ (marks : List Bool) (lo hi n : ℕ) (old new : Seen) (n_is : n ≡ length marks) (within : hi ≤ n) where
   -- after the last item
-  pub abort_ends : (c : ℕ) → ¬ IsSet old.abort → lo + c ≡ hi → Clear marks lo hi → (IsFresh old → IsFresh new) → IsLeafOf abort_flag marks lo hi old new n c
+  pub abort_ends : (c : ℕ) → ¬ IsSet old.abort → lo + c ≡ hi → Clear marks lo hi → (old.alone ≡ true → IsFresh old → IsFresh new) → IsLeafOf abort_flag marks lo hi old new n c
   abort_ends c unset e clear fresh = record {
     lawful = record {
       flagged = inl n_is;
@@ -108,7 +109,7 @@ module _ (marks : List Bool) (lo hi n : ℕ) (old new : Seen) (n_is : n ≡ leng
     };
     heeds = λ s. absurd (unset s);
     found = λ m. absurd (not_last marks lo c (subst (λ v. Clear marks lo v) (sym e) clear) m);
-    full = λ a f. record { ended = inl e; stays = λ _. fresh f };
+    full = λ a f. record { ended = inl e; stays = λ _. fresh a f };
   }
 
   -- at a marked item
@@ -163,7 +164,7 @@ module _ (marks : List Bool) (lo hi flag : ℕ) (old new : Seen) (flag_is : (fla
     full = λ a f. let r = full a f in record { ended = inl (omega (arith, r.0)); stays = λ _. r.1 };
   }
 
-  pub low_ends : (c : ℕ) → lo + c ≡ hi → Clear marks lo hi → (flag ≤ lo → c ≡ 0) → (IsFresh old → IsFresh new) → IsLeafOf low_flag marks lo hi old new flag c
+  pub low_ends : (c : ℕ) → lo + c ≡ hi → Clear marks lo hi → (flag ≤ lo → c ≡ 0) → (old.alone ≡ true → IsFresh old → IsFresh new) → IsLeafOf low_flag marks lo hi old new flag c
   low_ends c e clear skip fresh = record {
     lawful = record {
       flagged = flag_is;
@@ -171,7 +172,7 @@ module _ (marks : List Bool) (lo hi flag : ℕ) (old new : Seen) (flag_is : (fla
     };
     heeds = seen;
     found = λ s k g m. absurd (not_last marks lo c (subst (λ v. Clear marks lo v) (sym e) clear) (s, k, g, m));
-    full = λ a f. record { ended = inl e; stays = λ _. fresh f };
+    full = λ a f. record { ended = inl e; stays = λ _. fresh a f };
   }
 
   pub low_finds : (c at : ℕ) → lo < flag → at + 1 ≡ lo + c → lo ≤ at → at < hi → Clear marks lo at → IsMarked marks at → new.low ≤ at → IsLeafOf low_flag marks lo hi old new flag c

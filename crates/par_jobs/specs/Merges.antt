@@ -1,5 +1,5 @@
 -- Parts that are enums, what each merge gives, and why the merge of adjacent good parts is good.
-use Rattle.std.proofs.Common.{◌≡◌, ℕ, zero, suc, ◌+◌, ◌-◌, ◌≤◌, ◌<◌, ◌⊎◌, inl, inr, min, List, [], ◌∷◌, ◌++◌, length, map, take, drop, get_or, Bool, true, false, cond, refl, ap, sym, ◌∙◌, subst, arith, rules, length-append}
+use Rattle.std.proofs.Common.{◌≡◌, ℕ, zero, suc, ◌+◌, ◌-◌, ◌≤◌, ◌<◌, ◌⊎◌, inl, inr, min, List, [], ◌∷◌, ◌++◌, length, map, take, drop, get_or, Bool, true, false, cond, Option, Some, None, refl, ap, sym, ◌∙◌, subst, arith, rules, length-append}
 use Rattle.std.specs.List.{filter}
 use Rattle.std.proofs.lemmas.Bool.{cases_lt, false≢true}
 use Rattle.std.proofs.lemmas.List.{take-append-drop, take-take, drop-take, drop-drop}
@@ -9,6 +9,8 @@ use Rattle.par_laws.specs.declared.test.Verdict.TheVariants.{Pass, Fail, Fault}
 use Rattle.par_laws.specs.Marks.{IsMarked, Clear, stop, last}
 use Rattle.par_task.specs.Marking.{passes}
 use Rattle.par_task.specs.Parts.{between, Sound, IsLeastFault, IsEnd, IsFront, IsNowhere, IsFaulty, IsLastIn, IsSifted, IsGathered}
+use Rattle.par_laws.specs.declared.tried.FaultAt.{FaultAt}
+use Rattle.par_jobs.specs.Steps.{fails}
 use Rattle.par_jobs.specs.declared.front.Front.{Front}
 use Rattle.par_jobs.specs.declared.search.Sought.{Sought}
 use Rattle.par_jobs.specs.declared.search.Sought.TheVariants.{Found, Fell, Nowhere}
@@ -28,11 +30,19 @@ sought_merge (Fell f) (Found i) = Found i
 sought_merge (Fell f) b = Fell f
 sought_merge Nowhere b = b
 
--- the verdict is Fail
-abbrev pub fails : Verdict → Bool
-fails Pass = false
-fails Fail = true
-fails (Fault k) = false
+-- where no item passes, the least fault is answered, or nothing
+abbrev pub not_found_by : Option FaultAt → Sought
+not_found_by None = Nowhere
+not_found_by (Some f) = Fell f
+
+-- a fault stands in the place of what was built
+abbrev pub sifted_by : {A B : Type 0} → Option FaultAt → A → B → Sifted A B
+sifted_by None a b = sifted.Got a b
+sifted_by (Some f) a b = sifted.Fell f
+
+-- an item that is kept or not
+abbrev pub kept_if : {X : Type 0} → Bool → X → List X
+kept_if b x = cond b (x ∷ []) []
 
 abbrev pub sifted_shown : {A B C D : Type 0} → (A → C) → (B → D) → Sifted A B → Sifted C D
 sifted_shown f g (sifted.Got a b) = sifted.Got (f a) (g b)

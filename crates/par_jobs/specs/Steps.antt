@@ -1,10 +1,11 @@
 -- What a leaf reads of a flag on its way, and the first fault that it meets.
-use Rattle.std.specs.Prelude.{◌≡◌, ℕ, ◌+◌, ◌-◌, ◌<◌, ◌≤◌, ◌⊎◌, List, length, Bool, true, Option, Some, None}
+use Rattle.std.specs.Prelude.{◌≡◌, ℕ, ◌+◌, ◌-◌, ◌<◌, ◌≤◌, ◌⊎◌, List, length, Bool, true, false, Option, Some, None}
 use Rattle.par_laws.specs.declared.test.Verdict.{Verdict}
 use Rattle.par_laws.specs.declared.test.Verdict.TheVariants.{Pass, Fail, Fault}
 use Rattle.par_laws.specs.declared.tried.FaultAt.{FaultAt}
 use Rattle.par_laws.specs.Marks.{IsMarked, stop}
-use Rattle.par_signal.specs.Seen.{Seen, IsSet}
+use Rattle.par_signal.specs.Seen.{Seen}
+use Rattle.par_signal.specs.Values.{IsSet}
 use Rattle.par_task.specs.Leaves.{IsReadAgain}
 
 -- the first fault so far, with one verdict more
@@ -13,6 +14,12 @@ noted (Some f) v at = Some f
 noted None Pass at = None
 noted None Fail at = None
 noted None (Fault k) at = Some (record { at = at; kind = k })
+
+-- the verdict is Fail
+abbrev pub fails : Verdict → Bool
+fails Pass = false
+fails Fail = true
+fails (Fault k) = false
 
 -- a read of the low flag changes only what was seen of it, which falls; to a seat that is alone it tells nothing new
 pub record IsLowRead (old new : Seen) : Type 0 where

@@ -1,7 +1,7 @@
 //! The least fault of a leaf, and what a verdict says.
 ghost use Rattle.std.specs.Prelude.{◌≡◌};
 ghost use Rattle.par_task.specs.Marking.{passes, halts};
-ghost use Rattle.par_jobs.specs.Steps.{noted};
+ghost use Rattle.par_jobs.specs.Steps.{noted, fails};
 
 use par_laws::{FaultAt, Verdict};
 
@@ -12,6 +12,17 @@ pub(crate) fn is_pass(verdict: Verdict) -> bool
     match verdict {
         Verdict::Pass => true,
         Verdict::Fail => false,
+        Verdict::Fault(_) => false,
+    }
+}
+
+// Whether the verdict is Fail.
+pub(crate) fn is_fail(verdict: Verdict) -> bool
+    ensures { result ≡ fails verdict }
+{
+    match verdict {
+        Verdict::Pass => false,
+        Verdict::Fail => true,
         Verdict::Fault(_) => false,
     }
 }

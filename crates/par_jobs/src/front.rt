@@ -32,7 +32,8 @@ pub struct FrontJob<'a, S: Splitter, P: Test<S::Item>, B> {
     pub ghost small: { length (S.items marked.split) ≤ 4194304 },
 }
 
-impl<'a, S: Splitter + Send, P: Test<S::Item> + Send + Sync, B: Builder<S::Item>> Job for FrontJob<'a, S, P, B> {
+impl<'a, S: Splitter + Send, P: Test<S::Item> + Send + Sync, B: Builder<S::Item>> Job
+    for FrontJob<'a, S, P, B> {
     ghost use Rattle.std.proofs.Common.{sym, ◌∙◌};
     ghost use Rattle.par_task.specs.Marking.{low_flag, marks_of};
     ghost use Rattle.par_task.specs.Parts.{IsFront};
@@ -63,7 +64,13 @@ impl<'a, S: Splitter + Send, P: Test<S::Item> + Send + Sync, B: Builder<S::Item>
         seat: &mut SignalSeat,
     ) -> Result<Done<Front<B::Built>>, Memory> {
         let passed = pass_low(
-            alloc, &self.marked, self.builder, &mut input, probe, signals, seat,
+            alloc,
+            &self.marked,
+            self.builder,
+            &mut input,
+            probe,
+            signals,
+            seat,
         )?;
         Ok(Done {
             part: Front {

@@ -1,6 +1,7 @@
 //! A job that looks for the last marked item.
-ghost use Rattle.std.specs.Prelude.{◌≡◌, ℕ, ◌≤◌, ◌<◌, ◌^◌, length, map, IfOk};
-ghost use Rattle.par_jobs.specs.Merges.{last_merge};
+ghost use Rattle.std.specs.Prelude.{◌≡◌, ℕ, ◌+◌, ◌≤◌, ◌<◌, ◌^◌, length, map, true, false, IfOk};
+ghost use Rattle.par_laws.specs.Marks.{IsMarked};
+ghost use Rattle.par_task.specs.Seats.{IsLater};
 
 use crate::fault::is_halt;
 use par_laws::{Memory, Probe, Shown, Test};
@@ -14,6 +15,34 @@ use std::alloc::Global;
 pub struct LastJob<'a, S: Splitter, P: Test<S::Item>> {
     pub marked: Marked<'a, S, P>,
     pub ghost small: { length (S.items marked.split) ≤ 4194304 },
+}
+
+// The part of a leaf that is skipped: its flag, or 0 where it has no items.
+fn skipped(lo: u32, hi: u32, flag: u32) -> u32
+    ensures some { lo < hi → result ≡ flag }
+    ensures none { hi ≤ lo → result ≡ 0 }
+{
+    if lo < hi { flag } else { 0 }
+}
+
+// One above the last marked index, after an item whose index is one below `at`.
+fn later(last: u32, halt: bool, at: u32) -> u32
+    ensures some { halt ≡ true → result ≡ at }
+    ensures none { halt ≡ false → result ≡ last }
+{
+    if halt { at } else { last }
+}
+
+// Tells the last marked index, if there is one.
+fn tell(signals: &Signals, seat: &mut SignalSeat, last: u32)
+    requires seat { seat.old.of ≡ signals.now }
+    requires marked { (i : ℕ) → last ≡ i + 1 → IsMarked signals.now.marks i }
+    ensures later { IsLater seat.old seat.new }
+    ensures told { (i : ℕ) → last ≡ i + 1 → i + 1 ≤ seat.new.high }
+{
+    if last > 0 {
+        signals.raise(seat, last - 1);
+    }
 }
 
 impl<'a, S: Splitter + Send, P: Test<S::Item> + Send + Sync> Job for LastJob<'a, S, P> {
@@ -49,20 +78,19 @@ impl<'a, S: Splitter + Send, P: Test<S::Item> + Send + Sync> Job for LastJob<'a,
         let (lo, hi) = input.span();
         let flag = signals.high(seat);
         if hi <= flag {
-            let part = if lo < hi { flag } else { 0 };
-            return Ok(Done { part, flag });
+            return Ok(Done {
+                part: skipped(lo, hi, flag),
+                flag,
+            });
         }
         let mut at = lo;
         let mut last = 0;
         while let Some(item) = input.next() {
+            let halt = is_halt(probe.test(&item));
             at += 1;
-            if is_halt(probe.test(&item)) {
-                last = at;
-            }
+            last = later(last, halt, at);
         }
-        if last > 0 {
-            signals.raise(seat, last - 1);
-        }
+        tell(signals, seat, last);
         Ok(Done { part: last, flag })
     }
 

@@ -76,7 +76,8 @@ pub(crate) fn pass_low<S: Splitter, P: Test<S::Item>, B: Builder<S::Item>>(
     }
     let mut at = lo;
     while let Some(item) = input.next() {
-        if is_halt(probe.test(&item)) {
+        let halt = is_halt(probe.test(&item));
+        if halt {
             signals.lower(seat, at);
             return Ok(Passed {
                 flag,
@@ -88,7 +89,8 @@ pub(crate) fn pass_low<S: Splitter, P: Test<S::Item>, B: Builder<S::Item>>(
         }
         kept = builder.add(alloc, kept, &item)?;
         at += 1;
-        if is_past(signals, seat, lo, at, input.remaining()) {
+        let past = is_past(signals, seat, lo, at, input.remaining());
+        if past {
             return Ok(Passed {
                 flag,
                 at,

@@ -1,5 +1,6 @@
 //! A job that ends at any marked item.
 ghost use Rattle.std.specs.Prelude.{◌≡◌, ℕ, ◌≤◌, ◌<◌, ◌^◌, length, map, IfOk};
+ghost use Rattle.par_jobs.specs.Merges.{not_found_by};
 
 use crate::abort::{decided, decided_again};
 use crate::fault::{is_pass, note_fault};
@@ -21,6 +22,16 @@ impl Shown for Sought {
     type Value = Sought;
 
     ghost shown = { λ x. x };
+}
+
+// What is answered where no item passes.
+fn not_found(fault: Option<FaultAt>) -> Sought
+    ensures { result ≡ not_found_by fault }
+{
+    match fault {
+        None => Sought::Nowhere,
+        Some(fault) => Sought::Fell(fault),
+    }
 }
 
 /// Finds an item that passes. `forall` and `sameElements` have the contrary test.
@@ -71,7 +82,8 @@ impl<'a, S: Splitter + Send, P: Test<S::Item> + Send + Sync> Job for SearchJob<'
         let mut fault: Option<FaultAt> = None;
         while let Some(item) = input.next() {
             let verdict = probe.test(&item);
-            if is_pass(verdict) {
+            let pass = is_pass(verdict);
+            if pass {
                 signals.abort(seat, at);
                 return Ok(Done {
                     part: Sought::Found(at),
@@ -87,11 +99,10 @@ impl<'a, S: Splitter + Send, P: Test<S::Item> + Send + Sync> Job for SearchJob<'
                 });
             }
         }
-        let part = match fault {
-            None => Sought::Nowhere,
-            Some(fault) => Sought::Fell(fault),
-        };
-        Ok(Done { part, flag })
+        Ok(Done {
+            part: not_found(fault),
+            flag,
+        })
     }
 
     fn merge(&self, left: Sought, right: Sought) -> Result<Sought, Memory> {

@@ -1,9 +1,10 @@
 //! A job that tests every item.
-ghost use Rattle.std.specs.Prelude.{◌≡◌, ℕ, ◌≤◌, ◌<◌, ◌^◌, length, map, IfOk};
+ghost use Rattle.std.specs.Prelude.{◌≡◌, ℕ, ◌≤◌, ◌<◌, ◌^◌, List, ◌++◌, length, map, IfOk};
+ghost use Rattle.par_jobs.specs.Merges.{sifted_by, kept_if};
 
 use crate::builder::Builder;
-use crate::fault::note_fault;
-use par_laws::{FaultAt, Memory, Probe, Shown, Test, Verdict};
+use crate::fault::{is_fail, is_pass, note_fault};
+use par_laws::{FaultAt, Memory, Probe, Shown, Test};
 use par_signal::{SignalSeat, Signals};
 use par_splitter::Splitter;
 use par_task::{Done, Job, Marked};
@@ -24,6 +25,34 @@ impl<A: Shown, B: Shown> Shown for Sifted<A, B> {
     ghost shown = { λ p. sifted_shown A.shown B.shown p };
 }
 
+// What is built with an item more, where it is to be added.
+fn add_if<I: Shown, B: Builder<I>>(
+    alloc: Global,
+    builder: &B,
+    value: B::Built,
+    adds: bool,
+    item: &I,
+) -> Result<B::Built, Memory>
+    requires { (xs : List I.Value) × (length xs < 4194304) × B.built builder.now xs (B.Built.shown value) }
+    ensures { IfOk result (λ v. (xs : List I.Value) → B.built builder.now xs (B.Built.shown value) → B.built builder.now (xs ++ kept_if adds (I.shown item.now)) (B.Built.shown v)) }
+{
+    if adds {
+        builder.add(alloc, value, item)
+    } else {
+        Ok(value)
+    }
+}
+
+// What a leaf answers: what it built, or the fault that it met.
+fn sifted<A: Drop, B: Drop>(fault: Option<FaultAt>, passing: A, failing: B) -> Sifted<A, B>
+    ensures { result ≡ sifted_by fault passing failing }
+{
+    match fault {
+        None => Sifted::Got(passing, failing),
+        Some(fault) => Sifted::Fell(fault),
+    }
+}
+
 /// Builds of the items that pass, and of those that fail.
 #[derive(Drop)]
 pub struct SiftJob<'a, S: Splitter, P: Test<S::Item>, A, B> {
@@ -33,8 +62,13 @@ pub struct SiftJob<'a, S: Splitter, P: Test<S::Item>, A, B> {
     pub ghost small: { length (S.items marked.split) ≤ 4194304 },
 }
 
-impl<'a, S: Splitter + Send, P: Test<S::Item> + Send + Sync, A: Builder<S::Item>, B: Builder<S::Item>> Job
-    for SiftJob<'a, S, P, A, B> {
+impl<
+    'a,
+    S: Splitter + Send,
+    P: Test<S::Item> + Send + Sync,
+    A: Builder<S::Item>,
+    B: Builder<S::Item>,
+> Job for SiftJob<'a, S, P, A, B> {
     ghost use Rattle.std.proofs.Common.{sym, ◌∙◌};
     ghost use Rattle.par_task.specs.Marking.{no_flag};
     ghost use Rattle.par_jobs.specs.Merges.{IsSiftedOf, sifted_merge, sifted_joins};
@@ -72,18 +106,11 @@ impl<'a, S: Splitter + Send, P: Test<S::Item> + Send + Sync, A: Builder<S::Item>
             let verdict = probe.test(&item);
             fault = note_fault(fault, verdict, at);
             at += 1;
-            match verdict {
-                Verdict::Pass => passing = self.passing.add(alloc, passing, &item)?,
-                Verdict::Fail => failing = self.failing.add(alloc, failing, &item)?,
-                Verdict::Fault(_) => {}
-            }
+            passing = add_if(alloc, self.passing, passing, is_pass(verdict), &item)?;
+            failing = add_if(alloc, self.failing, failing, is_fail(verdict), &item)?;
         }
-        let part = match fault {
-            None => Sifted::Got(passing, failing),
-            Some(fault) => Sifted::Fell(fault),
-        };
         Ok(Done {
-            part,
+            part: sifted(fault, passing, failing),
             flag: self.marked.count(),
         })
     }

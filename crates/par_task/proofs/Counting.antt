@@ -2,7 +2,8 @@
 use Rattle.std.proofs.Common.{◌≡◌, ℕ, zero, suc, ◌+◌, ◌≤◌, ◌<◌, ◌⊎◌, inl, inr, min, ◌-◌, sum_by, Bool, true, false, List, [], ◌∷◌, length, get_or, refl, ap, sym, ◌∙◌, subst, arith, rules}
 use Rattle.std.proofs.lemmas.Bool.{cases_lt}
 use Rattle.par_laws.specs.Marks.{IsMarked, Clear, stop}
-use Rattle.par_signal.specs.Seen.{Seen, IsSet}
+use Rattle.par_signal.specs.Seen.{Seen}
+use Rattle.par_signal.specs.Values.{IsSet}
 use Rattle.par_task.specs.Marking.{Kind, low_flag, abort_flag, high_flag, no_flag, no_test}
 use Rattle.par_task.specs.Leaves.{EndsMarked, IsScan, IsSkipOrScan, IsLowLeaf, IsAbortLeaf, IsHighLeaf, IsLawful, AnyMarked}
 use Rattle.par_task.specs.Seats.{IsLater, Heeds, HasFound, IsGreatest, IsFresh, IsFull, IsFullAlone, IsLeafOf}

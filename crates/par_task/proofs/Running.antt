@@ -9,8 +9,9 @@ use Rattle.std.proofs.lemmas.List.Sums.{sum_by_push}
 use Rattle.std.proofs.Math.Seq.{drop-append_seam, take-append_seam}
 use Rattle.par_laws.specs.declared.test.Verdict.{Verdict}
 use Rattle.par_laws.specs.Marks.{Clear}
-use Rattle.par_signal.specs.Seen.{Seen, Flags, IsSet}
-use Rattle.par_signal.specs.declared.abort.Abort.TheVariants.{No}
+use Rattle.par_signal.specs.Seen.{Seen, Flags}
+use Rattle.par_signal.specs.Calls.{opened}
+use Rattle.par_signal.specs.Values.{IsSet}
 use Rattle.par_task.specs.Marking.{Kind}
 use Rattle.par_task.specs.Spans.{IsSpan}
 use Rattle.par_task.specs.Marking.{marks_of, is_mark}
@@ -281,9 +282,9 @@ going_count {S} {all = all} {tails} {leaves = leaves} g =
     let f = sym (length-append (map (λ (l : Leaf). l.node) leaves) (map (λ (x : ℕ × S). x.0) tails)) ∙ ap length g.nodes in
     omega (arith, f, length-map leaves (λ (l : Leaf). l.node), length-map tails (λ (x : ℕ × S). x.0), length-map all (λ (x : ℕ × S). x.0), g.done.count)
 
--- a seat that was just opened is fresh
-pub fresh_open : (seat : Seen) (n : ℕ) → seat.low ≡ n → seat.abort ≡ No → n ≡ length seat.of.marks → IsFresh seat
-fresh_open seat n low abort count = record { low = low ∙ count; abort = subst (λ a. ¬ IsSet a) (sym abort) (λ x. x) }
+-- a seat that was just opened is fresh and alone
+pub fresh_open : (seat : Seen) (flags : Flags) (marks : List Bool) → flags.marks ≡ marks → seat ≡ opened flags marks → IsFresh seat × (seat.alone ≡ true)
+fresh_open seat flags marks e s = subst (λ (v : Seen). IsFresh v × (v.alone ≡ true)) (sym s) (record { low = ap length (sym e); abort = λ x. x }, refl)
 
 pub marks_length : {X : Type 0} (kind : Kind) (v : X → Verdict) (source : List X) (verdicts : List Verdict) → map v source ≡ verdicts → length source ≡ length (marks_of kind verdicts)
 marks_length kind v source verdicts e = sym (length-map source v) ∙ (ap length e ∙ sym (length-map verdicts (is_mark kind)))

@@ -1,7 +1,8 @@
 -- What a leaf owes to its seat: what the seat had seen of the flags is heeded, and what the leaf found is seen.
 use Rattle.std.specs.Prelude.{◌≡◌, ℕ, ◌+◌, ◌<◌, ◌≤◌, ◌⊎◌, List, length, Bool, true}
 use Rattle.par_laws.specs.Marks.{IsMarked, Clear}
-use Rattle.par_signal.specs.Seen.{Seen, IsSet}
+use Rattle.par_signal.specs.Seen.{Seen}
+use Rattle.par_signal.specs.Values.{IsSet}
 use Rattle.par_task.specs.Marking.{Kind, low_flag, abort_flag, high_flag, no_flag, no_test}
 use Rattle.par_task.specs.Leaves.{IsLawful, EndsMarked}
 

@@ -26,7 +26,7 @@ pub trait Job {
     ghost use Rattle.par_task.specs.Spans.{IsSpan};
     ghost use Rattle.par_task.specs.Seats.{IsLater, IsLeafOf};
 
-    type Split: Splitter + Send;
+    type Split: Splitter;
 
     type Pred: Test<<Self::Split as Splitter>::Item> + Send + Sync;
 

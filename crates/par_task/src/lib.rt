@@ -16,6 +16,8 @@ mod job;
 mod marked;
 mod run;
 mod tails;
+#[cfg(test)]
+mod tests;
 
 pub use audit::{Audit, Leaf};
 pub use cutting::chain;

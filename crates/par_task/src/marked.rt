@@ -1,11 +1,9 @@
 //! The marks of a job, as its test gives them.
 ghost use Rattle.std.specs.Prelude.{◌≡◌, length, map};
-ghost use Rattle.par_task.specs.MarkedBy.{marks_by};
 
-use par_laws::{Memory, Test, Verdict};
+use par_laws::Test;
 use par_signal::Marks;
 use par_splitter::Splitter;
-use std::alloc::Global;
 use std::marker::Model;
 
 /// The marks of a test over the items of a splitter: an item that passes is marked, and where `faults` is true one that
@@ -51,28 +49,4 @@ impl<'a, S: Splitter, P: Test<S::Item>> Marks for Marked<'a, S, P> {
     ghost use Rattle.par_task.specs.MarkedBy.{marks_by};
 
     ghost marks = { λ m. map (marks_by m.faults) (map (P.verdict m.inner) (S.items m.split)) };
-
-    // Only the stand-in of the signals asks for this.
-    fn list(&self, alloc: Global) -> Result<Vec<bool>, Memory> {
-        let mut rest = self.split.dup();
-        let mut list = Vec::new(alloc);
-        while let Some(item) = rest.next() {
-            let mark = marks_one(self.faults, self.inner.test(&item));
-            match list.push(mark) {
-                Ok(()) => {}
-                Err(_) => return Err(Memory),
-            }
-        }
-        Ok(list)
-    }
-}
-
-fn marks_one(faults: bool, verdict: Verdict) -> bool
-    ensures { result ≡ marks_by faults verdict }
-{
-    match verdict {
-        Verdict::Pass => true,
-        Verdict::Fail => false,
-        Verdict::Fault(_) => faults,
-    }
 }

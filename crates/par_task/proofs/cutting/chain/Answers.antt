@@ -19,9 +19,9 @@ pub loop-head-preserved : goal.loop-head-preserved
 loop-head-preserved g c =
     let few : 2 * c.loop-head.at + 1 ≤ 2047 = omega arith in
     rw c.push_front.ensures (record {
-      linked = linked_next g.S.Splitter.items g.S.Splitter.lo _ _ _ _ _ _ _ c.loop-head.invariant.linked c.in-Two.ensures few;
+      linked = linked_next g.S.Splitter.items g.S.Splitter.lo _ _ _ _ _ _ _ c.loop-head.invariant.linked c.in-Two.ensures.cut few;
       some = omega arith;
-      needed = halves_count g.S.Splitter.items g.S.Splitter.lo _ _ _ c.in-Two.ensures _ (omega arith);
+      needed = halves_count g.S.Splitter.items g.S.Splitter.lo _ _ _ c.in-Two.ensures.cut _ (omega arith);
     })
 
 pub returns : goal.returns

@@ -1,6 +1,6 @@
 use Rattle.std.proofs.Common.{◌≡◌, ℕ, ◌+◌, ◌<◌, ◌≤◌, ◌^◌, length, length-append, map, sum_by, List, [], ◌∷◌, ◌++◌, refl, ap, sym, ◌∙◌, subst, arith, rules, true}
 use Rattle.std.proofs.lemmas.List.Sums.{sum_by_push}
-use Rattle.par_signal.specs.Seen.{Seen, Flags, IsSet}
+use Rattle.par_signal.specs.Seen.{Seen}
 use Rattle.par_task.specs.Marking.{marks_of}
 use Rattle.par_task.specs.Audits.{threshold_of}
 use Rattle.par_task.specs.declared.audit.Leaf.{Leaf}
@@ -11,15 +11,10 @@ pub loop-node-init : goal.loop-node-init
 loop-node-init g c =
     let items = g.J.Split.Splitter.items in
     let lo = g.J.Split.Splitter.lo in
-    let count : c.remaining-n.result ≡ length (g.J.Job.source c.args.job.now) = c.remaining-n.ensures ∙ ap length c.requires.source.1 in
-    let n : c.remaining-n.result ≡ length (marks_of g.J.Job.kind (g.J.Job.verdicts c.args.job.now)) =
-    count ∙ marks_length g.J.Job.kind (g.J.Pred.Test.verdict c.args.inner.now) (g.J.Job.source c.args.job.now) _ c.requires.test in
-    let seen : length c.in_ok-signals.seat.of.marks ≡ length (marks_of g.J.Job.kind (g.J.Job.verdicts c.args.job.now)) =
-    ap (λ (f : Flags). length f.marks) c.in_ok-signals.ensures.of ∙ ap length (c.in_ok-signals.ensures.flags ∙ c.requires.marks) in
-    let fresh = fresh_open c.in_ok-signals.seat c.remaining-n.result c.in_ok-signals.ensures.low c.in_ok-signals.ensures.abort (n ∙ sym seen) in
+    let fresh = fresh_open c.in_ok-signals.seat c.in_ok-signals.signals (g.M.Marks.marks c.args.marks.now) c.in_ok-signals.ensures.signals c.in_ok-signals.ensures.seat in
     let e : c.note.new.leaves.items ≡ c.in_ok-part.first ∷ [] = c.in_ok-note.ensures ∙ ap (λ (v : List Leaf). v ++ c.in_ok-part.first ∷ []) c.new-leaves.ensures.items in
     record {
-      going = rw e (going_first items lo _ _ _ _ (g.J.Job.source c.args.job.now) c.args.source 1 _ _ _ _ _ _ _ _ _ _ c.chain-node.ensures c.requires.source.0 c.requires.source.1 c.in_ok-part.ensures.leaf c.run_leaf.ensures.seat fresh c.in_ok-signals.ensures.alone);
+      going = rw e (going_first items lo _ _ _ _ (g.J.Job.source c.args.job.now) c.args.source 1 _ _ _ _ _ _ _ _ _ _ c.chain-node.ensures c.requires.source.0 c.requires.source.1 c.in_ok-part.ensures.leaf c.run_leaf.ensures.seat fresh.0 fresh.1);
       test = c.run_leaf.ensures.test ∙ c.new-probe.ensures.inner;
       seat = refl;
       made = rw e (omega (arith, c.in_ok-part.ensures.leaf.made, c.new-probe.ensures.made));
@@ -29,7 +24,7 @@ pub run_leaf-requires-in-Some-clause-test : goal.run_leaf-requires-in-Some-claus
 run_leaf-requires-in-Some-clause-test g c = λ _ _. rw c.loop-node.invariant.test c.requires.test
 
 pub run_leaf-requires-in-Some-clause-seat : goal.run_leaf-requires-in-Some-clause-seat
-run_leaf-requires-in-Some-clause-seat g c = λ _ _. c.loop-node.invariant.seat ∙ (c.run_leaf.ensures.seat.of ∙ c.in_ok-signals.ensures.of)
+run_leaf-requires-in-Some-clause-seat g c = λ _ _. c.loop-node.invariant.seat ∙ (c.run_leaf.ensures.seat.of ∙ ap (λ (s : Seen). s.of) c.in_ok-signals.ensures.seat)
 
 pub run_leaf-requires-in-Some-clause-part : goal.run_leaf-requires-in-Some-clause-part
 run_leaf-requires-in-Some-clause-part g c = λ _ _. span_next (rw c.in-Some.ensures at c.loop-node.invariant.going)
