@@ -7,11 +7,13 @@ use Rattle.par_laws.specs.declared.test.Verdict.TheVariants.{Fail}
 use Rattle.par_laws.specs.Marks.{IsMarked, Clear, stop}
 use Rattle.par_signal.specs.Seen.{Seen}
 use Rattle.par_signal.specs.Values.{IsSet}
+use Rattle.par_signal.specs.declared.abort.Abort.{Abort}
 use Rattle.par_task.specs.Marking.{Kind, low_flag, abort_flag, marks_of, is_mark}
 use Rattle.par_task.specs.Spans.{IsSpan}
 use Rattle.par_task.specs.Leaves.{EndsMarked, IsReadAgain, IsScan, IsSkipOrScan, IsLowLeaf, IsAbortLeaf, AnyMarked, IsLawful}
 use Rattle.par_task.specs.Seats.{IsLater, Heeds, HasFound, IsFresh, IsFull, IsFullAlone, IsLeafOf}
 use Rattle.par_task.proofs.Stops.{bool_cases, marked_below, stop_least, stop_within, clear_join, clear_one}
+use Rattle.par_signal.specs.Calls.{aborts}
 use Rattle.par_jobs.specs.Steps.{IsUnset, IsGoingOn}
 
 module _ {X : Type 0} where
@@ -80,6 +82,16 @@ going_join a b c p q = record {
   abort = λ s. q.abort (p.abort s);
   set = λ s. q.set (p.set s);
   alone = q.alone ∙ p.alone;
+}
+
+-- an abort is later
+pub abort_later : (old new : Seen) (i : ℕ) (a : Abort) → new ≡ aborts old i a → IsSet new.abort → IsLater old new
+abort_later old new i a e set = record {
+  of = ap (λ (v : Seen). v.of) e;
+  low = omega (arith, ap (λ (v : Seen). v.low) e);
+  high = omega (arith, ap (λ (v : Seen). v.high) e);
+  abort = λ _. set;
+  alone = λ s. ap (λ (v : Seen). v.alone) e ∙ s;
 }
 
 -- such a seat stays fresh

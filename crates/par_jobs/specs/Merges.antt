@@ -53,15 +53,17 @@ abbrev pub IsSiftedOf : {X A B : Type 0} → (X → Verdict) → (List X → A �
 IsSiftedOf verdict passing failing source lo hi (sifted.Got a b) = IsSifted (λ x. passes (verdict x)) (λ x. fails (verdict x)) passing failing source (map verdict source) lo hi a b
 IsSiftedOf verdict passing failing source lo hi (sifted.Fell f) = IsLeastFault (map verdict source) lo hi f.at f.kind
 
--- both joined, or the earlier fault
-abbrev pub sifted_merge : {A B : Type 0} → (A → A → A) → (B → B → B) → Sifted A B → Sifted A B → Sifted A B
-sifted_merge f g (sifted.Got a b) (sifted.Got c d) = sifted.Got (f a c) (g b d)
-sifted_merge f g (sifted.Got a b) (sifted.Fell x) = sifted.Fell x
-sifted_merge f g (sifted.Fell x) y = sifted.Fell x
+-- the merge of two sifted parts: both sides joined, or the earlier fault
+abbrev pub SiftedMerges : {A B : Type 0} → (A → A → A → Type 0) → (B → B → B → Type 0) → Sifted A B → Sifted A B → Sifted A B → Type 0
+SiftedMerges f g (sifted.Got a b) (sifted.Got c d) (sifted.Got x y) = f a c x × g b d y
+SiftedMerges f g (sifted.Got a b) (sifted.Got c d) (sifted.Fell x) = ⊥
+SiftedMerges f g (sifted.Got a b) (sifted.Fell x) z = z ≡ sifted.Fell x
+SiftedMerges f g (sifted.Fell x) y z = z ≡ sifted.Fell x
 
--- a front that is not whole ends the job
-abbrev pub front_merge : {K : Type 0} → (K → K → K) → Front K → Front K → Front K
-front_merge f a b = cond a.whole (record { kept = f a.kept b.kept; end = b.end; whole = b.whole }) a
+-- the merge of two fronts: a front that is not whole ends the job, and else what they built is joined
+pub record FrontMerges {K : Type 0} (joined : K → K → K → Type 0) (a b c : Front K) : Type 0 where
+  pub cut : a.whole ≡ false → c ≡ a
+  pub both : a.whole ≡ true → joined a.kept b.kept c.kept × (c.end ≡ b.end) × (c.whole ≡ b.whole)
 
 -- the right one where it found something
 abbrev pub last_merge : ℕ → ℕ → ℕ
@@ -105,58 +107,66 @@ between_join xs lo mid hi h k =
     ap (λ v. v ++ take b (drop mid xs)) f ∙ (ap (λ v. take a (take (a + b) ys) ++ v) e ∙ (take-append-drop a (take (a + b) ys) ∙ ap (λ i. take i ys) (sym t)))
 
 pub gather_joins :
-    {X K : Type 0} (built : List X → K → Type 0) (joined : K → K → K) (law : (xs ys : List X) (v w : K) → built xs v → built ys w → built (xs ++ ys) (joined v w))
-    (source : List X) (lo mid hi : ℕ) (a b c : K) → lo ≤ mid → mid ≤ hi → IsGathered built source lo mid a → IsGathered built source mid hi b → c ≡ joined a b → IsGathered built source lo hi c
+    {X K : Type 0} (built : List X → K → Type 0) (joined : K → K → K → Type 0) (law : (xs ys : List X) (v w c : K) → built xs v → built ys w → joined v w c → built (xs ++ ys) c)
+    (source : List X) (lo mid hi : ℕ) (a b c : K) → lo ≤ mid → mid ≤ hi → IsGathered built source lo mid a → IsGathered built source mid hi b → joined a b c → IsGathered built source lo hi c
 gather_joins built joined law source lo mid hi a b c h k p q m =
-    subst (λ v. built (between source lo hi) v) (sym m)
-    (subst (λ v. built v (joined a b)) (between_join source lo mid hi h k) (law (between source lo mid) (between source mid hi) a b p q))
+    subst (λ v. built v c) (between_join source lo mid hi h k) (law (between source lo mid) (between source mid hi) a b c p q m)
 
 sifted_one :
-    {X K : Type 0} (built : List X → K → Type 0) (joined : K → K → K) (law : (xs ys : List X) (v w : K) → built xs v → built ys w → built (xs ++ ys) (joined v w))
-    (keeps : X → Bool) (source : List X) (lo mid hi : ℕ) (a b : K) → lo ≤ mid → mid ≤ hi → built (filter keeps (between source lo mid)) a → built (filter keeps (between source mid hi)) b →
-    built (filter keeps (between source lo hi)) (joined a b)
-sifted_one built joined law keeps source lo mid hi a b h k p q =
-    subst (λ v. built v (joined a b)) (sym (filter-append keeps (between source lo mid) (between source mid hi)) ∙ ap (filter keeps) (between_join source lo mid hi h k))
-    (law (filter keeps (between source lo mid)) (filter keeps (between source mid hi)) a b p q)
+    {X K : Type 0} (built : List X → K → Type 0) (joined : K → K → K → Type 0) (law : (xs ys : List X) (v w c : K) → built xs v → built ys w → joined v w c → built (xs ++ ys) c)
+    (keeps : X → Bool) (source : List X) (lo mid hi : ℕ) (a b c : K) → lo ≤ mid → mid ≤ hi → built (filter keeps (between source lo mid)) a → built (filter keeps (between source mid hi)) b → joined a b c →
+    built (filter keeps (between source lo hi)) c
+sifted_one built joined law keeps source lo mid hi a b c h k p q m =
+    subst (λ v. built v c) (sym (filter-append keeps (between source lo mid) (between source mid hi)) ∙ ap (filter keeps) (between_join source lo mid hi h k))
+    (law (filter keeps (between source lo mid)) (filter keeps (between source mid hi)) a b c p q m)
 
-module _ {X A B : Type 0} (verdict : X → Verdict) (passing : List X → A → Type 0) (failing : List X → B → Type 0) (f : A → A → A) (g : B → B → B)
-    (law : (xs ys : List X) (v w : A) → passing xs v → passing ys w → passing (xs ++ ys) (f v w))
-    (law' : (xs ys : List X) (v w : B) → failing xs v → failing ys w → failing (xs ++ ys) (g v w)) (source : List X) (lo mid hi : ℕ) where
-  sifted_both : (a b : Sifted A B) → lo ≤ mid → mid ≤ hi → IsSiftedOf verdict passing failing source lo mid a → IsSiftedOf verdict passing failing source mid hi b → IsSiftedOf verdict passing failing source lo hi (sifted_merge f g a b)
-  sifted_both (sifted.Got a b) (sifted.Got c d) h k p q = record {
+module _ {X A B : Type 0} (verdict : X → Verdict) (passing : List X → A → Type 0) (failing : List X → B → Type 0) (f : A → A → A → Type 0) (g : B → B → B → Type 0)
+    (law : (xs ys : List X) (v w c : A) → passing xs v → passing ys w → f v w c → passing (xs ++ ys) c)
+    (law' : (xs ys : List X) (v w c : B) → failing xs v → failing ys w → g v w c → failing (xs ++ ys) c) (source : List X) (lo mid hi : ℕ) where
+  pub sifted_joins :
+      (a b c : Sifted A B) → lo ≤ mid → mid ≤ hi → IsSiftedOf verdict passing failing source lo mid a → IsSiftedOf verdict passing failing source mid hi b → SiftedMerges f g a b c →
+      IsSiftedOf verdict passing failing source lo hi c
+  sifted_joins (sifted.Got a b) (sifted.Got c d) (sifted.Got x y) h k p q m = record {
     sound = sound_join (map verdict source) lo mid hi p.sound q.sound;
-    passed = sifted_one passing f law (λ x. passes (verdict x)) source lo mid hi a c h k p.passed q.passed;
-    failed = sifted_one failing g law' (λ x. fails (verdict x)) source lo mid hi b d h k p.failed q.failed;
+    passed = sifted_one passing f law (λ x. passes (verdict x)) source lo mid hi a c x h k p.passed q.passed m.0;
+    failed = sifted_one failing g law' (λ x. fails (verdict x)) source lo mid hi b d y h k p.failed q.failed m.1;
   }
-  sifted_both (sifted.Got a b) (sifted.Fell x) h k p q = fault_right (map verdict source) lo mid hi x.at x.kind h p.sound q
-  sifted_both (sifted.Fell x) b h k p q = fault_left (map verdict source) lo mid hi x.at x.kind k p
+  sifted_joins (sifted.Got a b) (sifted.Got c d) (sifted.Fell x) h k p q m = absurd m
+  sifted_joins (sifted.Got a b) (sifted.Fell x) z h k p q m = subst (IsSiftedOf verdict passing failing source lo hi) (sym m) (fault_right (map verdict source) lo mid hi x.at x.kind h p.sound q)
+  sifted_joins (sifted.Fell x) b z h k p q m = subst (IsSiftedOf verdict passing failing source lo hi) (sym m) (fault_left (map verdict source) lo mid hi x.at x.kind k p)
 
-  pub sifted_joins : (a b c : Sifted A B) → lo ≤ mid → mid ≤ hi → IsSiftedOf verdict passing failing source lo mid a → IsSiftedOf verdict passing failing source mid hi b → c ≡ sifted_merge f g a b → IsSiftedOf verdict passing failing source lo hi c
-  sifted_joins a b c h k p q m = subst (IsSiftedOf verdict passing failing source lo hi) (sym m) (sifted_both a b h k p q)
+pub one_sifted :
+    {A B : Type 0} (f : A → A → A → Type 0) (g : B → B → B → Type 0) (law : (v w c d : A) → f v w c → f v w d → c ≡ d) (law' : (v w c d : B) → g v w c → g v w d → c ≡ d) (a b c d : Sifted A B) →
+    SiftedMerges f g a b c → SiftedMerges f g a b d → c ≡ d
+one_sifted f g law law' (sifted.Got a b) (sifted.Got c d) (sifted.Got x y) (sifted.Got z w) p q = ap (λ v. sifted.Got v y) (law a c x z p.0 q.0) ∙ ap (λ v. sifted.Got z v) (law' b d y w p.1 q.1)
+one_sifted f g law law' (sifted.Got a b) (sifted.Got c d) (sifted.Fell x) z p q = absurd p
+one_sifted f g law law' (sifted.Got a b) (sifted.Got c d) (sifted.Got x y) (sifted.Fell z) p q = absurd q
+one_sifted f g law law' (sifted.Got a b) (sifted.Fell x) y z p q = p ∙ sym q
+one_sifted f g law law' (sifted.Fell x) b y z p q = p ∙ sym q
 
-module _ {X K : Type 0} (built : List X → K → Type 0) (joined : K → K → K) (law : (xs ys : List X) (v w : K) → built xs v → built ys w → built (xs ++ ys) (joined v w))
+module _ {X K : Type 0} (built : List X → K → Type 0) (joined : K → K → K → Type 0) (law : (xs ys : List X) (v w c : K) → built xs v → built ys w → joined v w c → built (xs ++ ys) c)
     (source : List X) (marks : List Bool) (lo mid hi : ℕ) where
   front_both :
-      (kept : K) (end : ℕ) (whole : Bool) (b : Front K) → lo ≤ mid → mid ≤ hi → IsFront built source marks lo mid kept end whole → IsFront built source marks mid hi b.kept b.end b.whole →
-      (c : Front K) → c ≡ front_merge joined (record { kept = kept; end = end; whole = whole }) b → IsFront built source marks lo hi c.kept c.end c.whole
-  front_both kept end true b h k p q c m =
-      let r : IsFront built source marks lo hi (joined kept b.kept) b.end b.whole = record {
+      (kept : K) (end : ℕ) (whole : Bool) (b c : Front K) → lo ≤ mid → mid ≤ hi → IsFront built source marks lo mid kept end whole → IsFront built source marks mid hi b.kept b.end b.whole →
+      FrontMerges joined (record { kept = kept; end = end; whole = whole }) b c → IsFront built source marks lo hi c.kept c.end c.whole
+  front_both kept end true b c h k p q m =
+      let r = m.both refl in
+      record {
         taken = p.taken ++ q.taken;
         few = omega (arith, length-append p.taken q.taken, p.few, q.few);
-        built_is = law p.taken q.taken kept b.kept p.built_is q.built_is;
+        built_is = law p.taken q.taken kept b.kept c.kept p.built_is q.built_is r.0;
         front = λ s.
             let w : mid ≤ stop marks = p.ends.whole_is s refl in
             let e : min mid (stop marks) ≡ mid = omega arith in
             let f : p.taken ≡ between source lo mid = p.front s ∙ ap (λ v. between source lo v) e in
             ap (λ v. v ++ q.taken) f ∙ (ap (λ v. between source lo mid ++ v) (q.front w) ∙ between_join source lo mid (min hi (stop marks)) h (omega arith));
         ends = record {
-          at = λ s. q.ends.at (p.ends.whole_is s refl);
-          whole_is = λ s t. q.ends.whole_is (p.ends.whole_is s refl) t;
-          cut = λ s t. q.ends.cut (p.ends.whole_is s refl) t;
+          at = λ s. r.1 ∙ q.ends.at (p.ends.whole_is s refl);
+          whole_is = λ s t. q.ends.whole_is (p.ends.whole_is s refl) (sym r.2 ∙ t);
+          cut = λ s t. q.ends.cut (p.ends.whole_is s refl) (sym r.2 ∙ t);
         };
-      } in
-      subst (λ (v : Front K). IsFront built source marks lo hi v.kept v.end v.whole) (sym m) r
-  front_both kept end false b h k p q c m =
+      }
+  front_both kept end false b c h k p q m =
       let r : IsFront built source marks lo hi kept end false = record {
         taken = p.taken;
         few = omega (arith, p.few);
@@ -168,12 +178,27 @@ module _ {X K : Type 0} (built : List X → K → Type 0) (joined : K → K → 
           cut = λ s t. omega (arith, p.ends.cut s refl);
         };
       } in
-      subst (λ (v : Front K). IsFront built source marks lo hi v.kept v.end v.whole) (sym m) r
+      subst (λ (v : Front K). IsFront built source marks lo hi v.kept v.end v.whole) (sym (m.cut refl)) r
 
   pub front_joins :
-      (a b c : Front K) → lo ≤ mid → mid ≤ hi → IsFront built source marks lo mid a.kept a.end a.whole → IsFront built source marks mid hi b.kept b.end b.whole → c ≡ front_merge joined a b →
+      (a b c : Front K) → lo ≤ mid → mid ≤ hi → IsFront built source marks lo mid a.kept a.end a.whole → IsFront built source marks mid hi b.kept b.end b.whole → FrontMerges joined a b c →
       IsFront built source marks lo hi c.kept c.end c.whole
-  front_joins a b c h k p q m = front_both a.kept a.end a.whole b h k p q c m
+  front_joins a b c h k p q m = front_both a.kept a.end a.whole b c h k p q m
+
+abbrev pub front_with : {K : Type 0} → K → ℕ → Bool → Front K
+front_with kept end whole = record { kept = kept; end = end; whole = whole }
+
+one_front_by : {K : Type 0} (joined : K → K → K → Type 0) (law : (v w c d : K) → joined v w c → joined v w d → c ≡ d) (kept : K) (end : ℕ) (whole : Bool) (b c d : Front K) →
+    FrontMerges joined (record { kept = kept; end = end; whole = whole }) b c → FrontMerges joined (record { kept = kept; end = end; whole = whole }) b d → c ≡ d
+one_front_by {K} joined law kept end true b c d p q =
+    let x = p.both refl in
+    let y = q.both refl in
+    ap (λ v. front_with v c.end c.whole) (law kept b.kept c.kept d.kept x.0 y.0)
+    ∙ (ap (λ v. front_with d.kept v c.whole) (x.1 ∙ sym y.1) ∙ ap (λ v. front_with d.kept d.end v) (x.2 ∙ sym y.2))
+one_front_by joined law kept end false b c d p q = p.cut refl ∙ sym (q.cut refl)
+
+pub one_front : {K : Type 0} (joined : K → K → K → Type 0) (law : (v w c d : K) → joined v w c → joined v w d → c ≡ d) (a b c d : Front K) → FrontMerges joined a b c → FrontMerges joined a b d → c ≡ d
+one_front joined law a b c d p q = one_front_by joined law a.kept a.end a.whole b c d p q
 
 last_both : (marks : List Bool) (lo mid hi a b : ℕ) → lo ≤ mid → mid ≤ hi → IsLastIn marks lo mid a → IsLastIn marks mid hi b → IsLastIn marks lo hi (last_merge a b)
 last_both marks lo mid hi a zero h k p q = record {

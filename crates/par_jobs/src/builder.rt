@@ -7,13 +7,13 @@ use std::alloc::Global;
 /// Builds a value from a list of items, part by part: a leaf starts a value and adds its items in order, and the values
 /// of adjacent parts are joined. Its calls answer want of memory and no other error.
 pub trait Builder<I: Shown> {
-    type Built: Shown + Drop + Send;
+    type Built: Shown + Drop;
 
     // The value stands for these items.
     ghost built: { Self → List I.Value → Self.Built.Value → Type 0 };
 
-    // The value of the first list followed by the second.
-    ghost joined: { Self → Self.Built.Value → Self.Built.Value → Self.Built.Value };
+    // The third value is the first joined with the second.
+    ghost joined: { Self → Self.Built.Value → Self.Built.Value → Self.Built.Value → Type 0 };
 
     /// The value of no items.
     fn start(&self, alloc: Global) -> Result<Self::Built, Memory>
@@ -27,8 +27,11 @@ pub trait Builder<I: Shown> {
     /// The value of both lists.
     fn join(&self, left: Self::Built, right: Self::Built) -> Result<Self::Built, Memory>
         requires { ∥ ((xs ys : List I.Value) × (length xs + length ys ≤ 4194304) × built self.now xs (Self.Built.shown left) × built self.now ys (Self.Built.shown right)) ∥₁ }
-        ensures { IfOk result (λ v. Self.Built.shown v ≡ joined self.now (Self.Built.shown left) (Self.Built.shown right)) };
+        ensures { IfOk result (λ v. joined self.now (Self.Built.shown left) (Self.Built.shown right) (Self.Built.shown v)) };
 
     // What is joined stands for the joined list.
-    ghost joins: { (b : Self) (xs ys : List I.Value) (v w : Self.Built.Value) → built b xs v → built b ys w → built b (xs ++ ys) (joined b v w) };
+    ghost joins: { (b : Self) (xs ys : List I.Value) (v w c : Self.Built.Value) → built b xs v → built b ys w → joined b v w c → built b (xs ++ ys) c };
+
+    // Two values have at most one join.
+    ghost one_join: { (b : Self) (v w c d : Self.Built.Value) → joined b v w c → joined b v w d → c ≡ d };
 }

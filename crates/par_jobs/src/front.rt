@@ -32,12 +32,10 @@ pub struct FrontJob<'a, S: Splitter, P: Test<S::Item>, B> {
     pub ghost small: { length (S.items marked.split) ≤ 4194304 },
 }
 
-impl<'a, S: Splitter + Send, P: Test<S::Item> + Send + Sync, B: Builder<S::Item>> Job
-    for FrontJob<'a, S, P, B> {
-    ghost use Rattle.std.proofs.Common.{sym, ◌∙◌};
+impl<'a, S: Splitter, P: Test<S::Item>, B: Builder<S::Item>> Job for FrontJob<'a, S, P, B> {
     ghost use Rattle.par_task.specs.Marking.{low_flag, marks_of};
     ghost use Rattle.par_task.specs.Parts.{IsFront};
-    ghost use Rattle.par_jobs.specs.Merges.{front_merge, front_joins};
+    ghost use Rattle.par_jobs.specs.Merges.{FrontMerges, front_joins, one_front};
 
     type Split = S;
 
@@ -53,7 +51,7 @@ impl<'a, S: Splitter + Send, P: Test<S::Item> + Send + Sync, B: Builder<S::Item>
 
     ghost good = { λ j lo hi p. IsFront (B.built j.builder.now) (S.items j.marked.split) (marks_of low_flag (map (P.verdict j.marked.inner) (S.items j.marked.split))) lo hi p.kept p.end p.whole };
 
-    ghost merges = { λ j a b c. c ≡ front_merge (B.joined j.builder.now) a b };
+    ghost merges = { λ j a b c. FrontMerges (B.joined j.builder.now) a b c };
 
     fn leaf(
         &self,
@@ -100,5 +98,5 @@ impl<'a, S: Splitter + Send, P: Test<S::Item> + Send + Sync, B: Builder<S::Item>
 
     ghost joins = { λ j lo mid hi a b c h k l p q m. front_joins (B.built j.builder.now) (B.joined j.builder.now) (B.joins j.builder.now) _ _ lo mid hi a b c h k p q m };
 
-    ghost one_merge = { λ j a b c d p q. p ∙ sym q };
+    ghost one_merge = { λ j a b c d p q. one_front (B.joined j.builder.now) (B.one_join j.builder.now) a b c d p q };
 }

@@ -16,8 +16,7 @@ pub struct GatherJob<'a, S: Splitter, B> {
     pub ghost small: { length (S.items marked.split) ≤ 4194304 },
 }
 
-impl<'a, S: Splitter + Send, B: Builder<S::Item>> Job for GatherJob<'a, S, B> {
-    ghost use Rattle.std.proofs.Common.{sym, ◌∙◌};
+impl<'a, S: Splitter, B: Builder<S::Item>> Job for GatherJob<'a, S, B> {
     ghost use Rattle.par_task.specs.Marking.{no_test};
     ghost use Rattle.par_task.specs.Parts.{IsGathered};
     ghost use Rattle.par_jobs.specs.Merges.{gather_joins};
@@ -37,7 +36,7 @@ impl<'a, S: Splitter + Send, B: Builder<S::Item>> Job for GatherJob<'a, S, B> {
 
     ghost good = { λ j lo hi p. IsGathered (B.built j.builder.now) (S.items j.marked.split) lo hi p };
 
-    ghost merges = { λ j a b c. c ≡ B.joined j.builder.now a b };
+    ghost merges = { λ j a b c. B.joined j.builder.now a b c };
 
     fn leaf(
         &self,
@@ -63,5 +62,5 @@ impl<'a, S: Splitter + Send, B: Builder<S::Item>> Job for GatherJob<'a, S, B> {
 
     ghost joins = { λ j lo mid hi a b c h k l p q m. gather_joins (B.built j.builder.now) (B.joined j.builder.now) (B.joins j.builder.now) _ lo mid hi a b c h k p q m };
 
-    ghost one_merge = { λ j a b c d p q. p ∙ sym q };
+    ghost one_merge = { λ j a b c d p q. B.one_join j.builder.now a b c d p q };
 }

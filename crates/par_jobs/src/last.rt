@@ -45,7 +45,7 @@ fn tell(signals: &Signals, seat: &mut SignalSeat, last: u32)
     }
 }
 
-impl<'a, S: Splitter + Send, P: Test<S::Item> + Send + Sync> Job for LastJob<'a, S, P> {
+impl<'a, S: Splitter, P: Test<S::Item>> Job for LastJob<'a, S, P> {
     ghost use Rattle.std.proofs.Common.{sym, ◌∙◌};
     ghost use Rattle.par_task.specs.Marking.{high_flag, marks_of};
     ghost use Rattle.par_task.specs.Parts.{IsLastIn};

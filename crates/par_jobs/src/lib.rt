@@ -22,6 +22,8 @@ mod low;
 mod search;
 mod sift;
 mod stock;
+#[cfg(test)]
+mod tests;
 
 pub use builder::Builder;
 pub use front::{Front, FrontJob};
@@ -29,4 +31,4 @@ pub use gather::GatherJob;
 pub use last::LastJob;
 pub use search::{SearchJob, Sought};
 pub use sift::{SiftJob, Sifted};
-pub use stock::{Counting, Listing, Nothing};
+pub use stock::{Counting, Folding, Listing, Nothing};

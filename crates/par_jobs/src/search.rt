@@ -41,7 +41,7 @@ pub struct SearchJob<'a, S: Splitter, P: Test<S::Item>> {
     pub ghost small: { length (S.items marked.split) ≤ 4194304 },
 }
 
-impl<'a, S: Splitter + Send, P: Test<S::Item> + Send + Sync> Job for SearchJob<'a, S, P> {
+impl<'a, S: Splitter, P: Test<S::Item>> Job for SearchJob<'a, S, P> {
     ghost use Rattle.std.proofs.Common.{sym, ◌∙◌};
     ghost use Rattle.par_task.specs.Marking.{abort_flag, marks_of};
     ghost use Rattle.par_jobs.specs.Merges.{IsSought, sought_merge, sought_joins};
@@ -71,10 +71,8 @@ impl<'a, S: Splitter + Send, P: Test<S::Item> + Send + Sync> Job for SearchJob<'
         seat: &mut SignalSeat,
     ) -> Result<Done<Sought>, Memory> {
         if let Some(i) = decided(signals, seat)? {
-            return Ok(Done {
-                part: Sought::Found(i),
-                flag: 0,
-            });
+            let part = Sought::Found(i);
+            return Ok(Done { part, flag: 0 });
         }
         let flag = self.marked.count();
         let (lo, _) = input.span();

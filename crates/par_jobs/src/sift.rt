@@ -44,7 +44,7 @@ fn add_if<I: Shown, B: Builder<I>>(
 }
 
 // What a leaf answers: what it built, or the fault that it met.
-fn sifted<A: Drop, B: Drop>(fault: Option<FaultAt>, passing: A, failing: B) -> Sifted<A, B>
+fn outcome<A: Drop, B: Drop>(fault: Option<FaultAt>, passing: A, failing: B) -> Sifted<A, B>
     ensures { result ≡ sifted_by fault passing failing }
 {
     match fault {
@@ -62,16 +62,10 @@ pub struct SiftJob<'a, S: Splitter, P: Test<S::Item>, A, B> {
     pub ghost small: { length (S.items marked.split) ≤ 4194304 },
 }
 
-impl<
-    'a,
-    S: Splitter + Send,
-    P: Test<S::Item> + Send + Sync,
-    A: Builder<S::Item>,
-    B: Builder<S::Item>,
-> Job for SiftJob<'a, S, P, A, B> {
-    ghost use Rattle.std.proofs.Common.{sym, ◌∙◌};
+impl<'a, S: Splitter, P: Test<S::Item>, A: Builder<S::Item>, B: Builder<S::Item>> Job
+    for SiftJob<'a, S, P, A, B> {
     ghost use Rattle.par_task.specs.Marking.{no_flag};
-    ghost use Rattle.par_jobs.specs.Merges.{IsSiftedOf, sifted_merge, sifted_joins};
+    ghost use Rattle.par_jobs.specs.Merges.{IsSiftedOf, SiftedMerges, sifted_joins, one_sifted};
 
     type Split = S;
 
@@ -87,7 +81,7 @@ impl<
 
     ghost good = { λ j lo hi p. IsSiftedOf (P.verdict j.marked.inner) (A.built j.passing.now) (B.built j.failing.now) (S.items j.marked.split) lo hi p };
 
-    ghost merges = { λ j a b c. c ≡ sifted_merge (A.joined j.passing.now) (B.joined j.failing.now) a b };
+    ghost merges = { λ j a b c. SiftedMerges (A.joined j.passing.now) (B.joined j.failing.now) a b c };
 
     fn leaf(
         &self,
@@ -110,7 +104,7 @@ impl<
             failing = add_if(alloc, self.failing, failing, is_fail(verdict), &item)?;
         }
         Ok(Done {
-            part: sifted(fault, passing, failing),
+            part: outcome(fault, passing, failing),
             flag: self.marked.count(),
         })
     }
@@ -133,5 +127,5 @@ impl<
 
     ghost joins = { λ j lo mid hi a b c h k l p q m. sifted_joins (P.verdict j.marked.inner) (A.built j.passing.now) (B.built j.failing.now) (A.joined j.passing.now) (B.joined j.failing.now) (A.joins j.passing.now) (B.joins j.failing.now) _ lo mid hi a b c h k p q m };
 
-    ghost one_merge = { λ j a b c d p q. p ∙ sym q };
+    ghost one_merge = { λ j a b c d p q. one_sifted (A.joined j.passing.now) (B.joined j.failing.now) (A.one_join j.passing.now) (B.one_join j.failing.now) a b c d p q };
 }

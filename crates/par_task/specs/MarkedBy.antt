@@ -2,7 +2,7 @@
 use Rattle.std.specs.Prelude.{◌≡◌, Bool, true, false, refl}
 use Rattle.std.specs.Coded.{Coded, code_by, coded×, coded_bool}
 use Rattle.par_laws.specs.declared.test.Verdict.{Verdict}
-use Rattle.par_laws.specs.declared.test.Verdict.TheVariants.{Pass, Fail, Fault}
+use Rattle.par_task.specs.Marking.{passes, halts}
 
 -- a splitter, a test, and whether a fault is a mark
 pub record MarkedBy (S P : Type 0) : Type 0 where
@@ -16,6 +16,5 @@ marked_code {S} {P} s p =
 
 -- Pass is a mark, and where faults count a Fault too
 abbrev pub marks_by : Bool → Verdict → Bool
-marks_by faults Pass = true
-marks_by faults Fail = false
-marks_by faults (Fault k) = faults
+marks_by true v = halts v
+marks_by false v = passes v

@@ -20,6 +20,9 @@ pub struct Done<P> {
 ///
 /// A job in hand is its own plain data: `source`, `verdicts`, `good` and `merges` read it as contracts see it. It has no
 /// test that it can run. A leaf tests by its probe alone, so that what a leaf tested is counted.
+///
+/// `Send` and `Sync` are asked by the functions that start threads. The method of an impl could not call a function over
+/// a trait that carries them.
 pub trait Job {
     ghost use Rattle.par_laws.specs.declared.test.Verdict.{Verdict};
     ghost use Rattle.par_task.specs.Marking.{Kind, marks_of};
@@ -28,9 +31,9 @@ pub trait Job {
 
     type Split: Splitter;
 
-    type Pred: Test<<Self::Split as Splitter>::Item> + Send + Sync;
+    type Pred: Test<<Self::Split as Splitter>::Item>;
 
-    type Part: Shown + Drop + Send;
+    type Part: Shown + Drop;
 
     ghost kind: { Kind };
 

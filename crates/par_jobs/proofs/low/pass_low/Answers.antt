@@ -125,10 +125,7 @@ add-requires g c =
     let marks = marks_of low_flag verdicts in
     let i = c.loop-item.invariant in
     let scan = rw c.in-Some.ensures.first at i.scan in
-    (between source c.loop-item.lo c.loop-item.at, few_between source _ _ _ _ scan.span c.requires.small, i.kept)
-
-pub is_past-requires-clause-seat : goal.is_past-requires-clause-seat
-is_past-requires-clause-seat g c = c.loop-item.invariant.seat.of ∙ c.requires.seat
+    (between source c.span-lo.result.0 c.loop-item.at, few_between source _ _ _ _ scan.span c.requires.small, i.kept)
 
 pub returns-then-past-clause-seat : goal.returns-then-past-clause-seat
 returns-then-past-clause-seat g c = low_read_later _ _ (low_read_join _ _ _ c.loop-item.invariant.seat c.is_past-past.ensures.read)
@@ -150,7 +147,7 @@ returns-then-past-clause-leaf g c =
     let p = c.is_past-past.ensures.past c.if-past.true in
     let stops : stop marks ≤ c.loop-item.at + 1 = omega (arith, p.past, ap stop c.requires.marks) in
     let left : c.loop-item.at + 1 < g.S.Splitter.lo c.args.input.now + length (g.S.Splitter.items c.args.input.now) = omega (arith, next.ends, c.remaining.ensures, p.more) in
-    let count : c.loop-item.at + 1 - c.loop-item.lo ≡ c.test.new.self.made - c.args.probe.now.made = omega (arith, made, i.lo_is, scan.from) in
+    let count : c.loop-item.at + 1 - c.span-lo.result.0 ≡ c.test.new.self.made - c.args.probe.now.made = omega (arith, made, i.lo_is, scan.from) in
     let marks_are : length c.args.seat.now.of.marks ≡ length marks = ap (λ (f : Flags). length f.marks) c.requires.seat ∙ ap length c.requires.marks in
     low_breaks _ _ _ _ _ _ i.flag_is i.flag_seen _ (rw i.lo_is at i.some) (subst IsReadAgain count p.again) (omega (arith, made, before)) (subst (λ k. Clear marks (g.S.Splitter.lo c.args.input.now) k) made next.clear) (omega (arith, stops, made))
     (λ a f. omega (arith, p.by_another (i.seat.alone ∙ a), i.seat.still a, f.low, marks_are, left, within))
