@@ -14,12 +14,12 @@ pub enum Cut<S> {
 /// An iterator over a part of a source that can be split in two.
 ///
 /// Contracts see it as `items`, the list still to come, and `lo`, the place of the first of them in the source. Its
-/// span is `lo..hi`, with `hi - lo` the number of items left. No call here takes memory. Parts move to other threads
-/// and are shared by them, so a splitter is `Send` and `Sync`, and its items are `Send`.
-pub trait Splitter: Sized + Drop + Send + Sync {
+/// span is `lo..hi`, with `hi - lo` the number of items left. No call here takes memory. A function that starts threads
+/// asks for `Send` and `Sync` itself.
+pub trait Splitter: Sized + Drop {
     ghost use Rattle.par_splitter.specs.Parts.{IsDup, IsCut, IsHalved, TookFirst, TookNone};
 
-    type Item: Shown + Drop + Send;
+    type Item: Shown + Drop;
 
     ghost items: { Self → List Self.Item.Value };
 
