@@ -10,30 +10,33 @@ use Rattle.pipe_lang.specs.declared.pipeline.Step.TheVariants.{Filter}
 use Rattle.pipe_lang.specs.declared.pipeline.Last.{Last}
 use Rattle.pipe_lang.specs.declared.pipeline.Pipeline.{Pipeline}
 
--- an expression
+-- an expression: a number, a column by its name, or an operator between two expressions
 pub data Tree : Type 0 where
   Number : ℤ → Tree
   Named : List ℕ → Tree
   Joined : Op → Tree → Tree → Tree
 
+-- the expression that a value in memory is
 abbrev pub tree_of : Expr → Tree
 tree_of (Int n) = Number n
 tree_of (Column name) = Named name
 tree_of (Pair' op p a q b) = Joined op (tree_of a) (tree_of b)
 
--- a step
+-- a step: a filter, which keeps the rows that meet the condition
 pub data Stage : Type 0 where
   Keeps : Tree → Stage
 
+-- the step that a value in memory is
 abbrev pub stage_of : Step → Stage
 stage_of (Filter condition) = Keeps (tree_of condition)
 
--- a pipeline
+-- a pipeline: its source, the collection that holds the rows, its steps in order and its last step
 pub record Plan : Type 0 where
   pub source : Source
   pub kind : Kind
   pub stages : List Stage
   pub last : Last
 
+-- the pipeline that a value in memory is
 abbrev pub plan_of : Pipeline → Plan
 plan_of p = record { source = p.source; kind = p.kind; stages = map stage_of p.steps.items; last = p.last }

@@ -27,6 +27,7 @@ pub record IsRange (tokens : List (List ℕ)) (a b c : ℤ) : Type 0 where
   pub c_is : IsInt stride c
   pub moves : c ≢ pos 0
 
+-- the tokens of a source's line
 abbrev pub IsSource : List (List ℕ) → Source → Type 0
 IsSource tokens (Range a b c) = IsRange tokens a b c
 

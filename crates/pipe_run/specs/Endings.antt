@@ -28,6 +28,7 @@ EndsBy rule before after out out' WriteFault = Rose out.faults out'.faults × If
 EndsBy rule before after out out' Usage = Refuses rule before after out out' (Unit {0}) Usage
 EndsBy rule before after out out' o = Refuses rule before after out out' (Shows before after o) o
 
+-- a run over a shelf and a sink that ended with this outcome
 pub record Ends (rule : List File → Result (List ℕ) Outcome → Type 0) (before after : ShelfState) (out out' : SinkState) (o : Outcome) : Type 0 where
   pub later : IsLaterShelf before after
   pub ended : EndsBy rule before after out out' o
@@ -43,6 +44,7 @@ pub record Tells (rule : List File → Result (List ℕ) Outcome → Type 0) (be
   pub ends : Ends rule before after out out' outcome
   pub said : Said (line_of outcome) err err'
 
+-- the status that a ruling asks for: 0 with a text
 abbrev pub status_of_ruling : Result (List ℕ) Outcome → ℕ
 status_of_ruling (Ok text) = 0
 status_of_ruling (Err o) = status_of o

@@ -4,6 +4,7 @@ use Rattle.std.specs.List.{concat}
 use Rattle.pipe_run.specs.declared.outcome.Outcome.{Outcome}
 use Rattle.pipe_run.specs.declared.outcome.Outcome.TheVariants.{Done, Usage, BadPipeline, ReadFault, WriteFault, Memory}
 
+-- the status of the process
 abbrev pub status_of : Outcome → ℕ
 status_of Done = 0
 status_of Usage = 2

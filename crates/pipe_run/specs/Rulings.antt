@@ -18,6 +18,7 @@ UnlessFree WriteFault P = Unit {0}
 UnlessFree Memory P = Unit {0}
 UnlessFree _ P = P
 
+-- the same of a result: a fact of each value, and of each outcome that rests on a ruling
 abbrev pub IfRuled : {A : Type 0} → Result A Outcome → Type 0 → Type 0
 IfRuled (Ok a) P = P
 IfRuled (Err o) P = UnlessFree o P
