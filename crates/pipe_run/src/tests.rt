@@ -1,5 +1,7 @@
 //! What no clause says: that a run succeeds where there is memory, over files and sinks in memory.
 
+ghost use Rattle.std.specs.Prelude.{◌≤◌};
+
 use crate::{Outcome, parcoll, status};
 use par_edge::{MemoryShelf, MemorySink, Named, OpenGate};
 use par_laws::{Memory, Words};
@@ -23,6 +25,14 @@ fn shelf(alloc: Global, text: &str, piece: u32, fails: u64) -> Result<MemoryShel
         bytes: text.as_bytes().to_vec(alloc)?,
     })?;
     Ok(MemoryShelf::new(files, piece, [fails].to_vec(alloc)?))
+}
+
+fn owned(alloc: Global, texts: &[&str]) -> Result<Vec<String>, Memory> {
+    let mut words = Vec::new(alloc);
+    for text in texts {
+        words.push(String::from_str(alloc, text)?)?;
+    }
+    Ok(words)
 }
 
 #[test]
@@ -91,10 +101,7 @@ fn runs_the_program_over_memory(rt: HostRuntime) -> Result<(), Fail> {
         ),
     ];
     for (texts, text, read, write, said, wanted, written, line) in cases {
-        let mut words = Vec::new(alloc);
-        for word in texts {
-            words.push(String::from_str(alloc, word)?)?;
-        }
+        let words = owned(alloc, texts)?;
         let mut shelf = shelf(alloc, text, 64, read)?;
         let mut out = MemorySink::new(alloc, 64, 64, [write].to_vec(alloc)?)?;
         let mut err = MemorySink::new(alloc, 128, 128, [said].to_vec(alloc)?)?;
