@@ -1,9 +1,9 @@
 -- Runs of bytes, and what a token's first byte tells.
-use Rattle.std.proofs.Common.{◌≡◌, ◌≤◌, ◌∷◌, ◌++◌, ◌∙◌, ◌==◌, ◌&&◌, ◌+◌, cond, sym, refl, ap, inl, inr, ℕ, suc, List, [], length, take, drop, Option, Some, None, arith, Bool, true, false, eqb→eq}
+use Rattle.std.proofs.Common.{◌≡◌, ◌≤◌, ◌∷◌, ◌++◌, ◌∙◌, ◌==◌, ◌&&◌, ◌+◌, cond, refl, ap, inl, inr, ℕ, suc, List, [], length, take, drop, Option, Some, None, arith, Bool, true, false, eqb→eq}
 use Rattle.std.specs.List.{list_all, prefix_len}
 use Rattle.std.proofs.lemmas.Bool.{cases_Bool}
 use Rattle.std.specs.Prelude.{not}
-use Rattle.pipe_text.specs.Token.{holds_at, is_body, is_digit, is_letter, is_plain, step}
+use Rattle.pipe_text.specs.Token.{holds_at, is_body, is_digit, is_letter, step}
 use Rattle.pipe_text.specs.Reading.{at_state, behind, body_at, onto, run}
 
 pub some_inj : {A : Type 0} (x y : A) → Some x ≡ Some y → x ≡ y

@@ -1,6 +1,6 @@
 -- The first line of a text.
-use Rattle.std.proofs.Common.{◌≡◌, ◌<◌, ◌+◌, ◌∷◌, ◌==◌, ◌∙◌, sym, refl, ap, inl, inr, ℕ, suc, List, [], length, take, drop, Bool, true, false, arith}
-use Rattle.std.specs.List.{onto_first, position_or_len, slice_split}
+use Rattle.std.proofs.Common.{◌≡◌, ◌<◌, ◌+◌, ◌∷◌, ◌==◌, ◌∙◌, sym, refl, inl, inr, ℕ, suc, List, [], length, take, drop, Bool, false, arith}
+use Rattle.std.specs.List.{position_or_len, slice_split}
 use Rattle.std.specs.Str.Lines.{lines, lines_of_parts, strip_carriage_return}
 use Rattle.std.proofs.lemmas.Bool.{cases_Bool}
 use Rattle.std.specs.Prelude.{not}

@@ -1,14 +1,14 @@
 -- Tokens from left to right are the tokens of the line.
-use Rattle.std.proofs.Common.{◌⊎◌, ◌≡◌, ◌≤◌, ◌<◌, ◌+◌, ◌-◌, ◌∷◌, ◌++◌, ◌==◌, ◌∙◌, sym, refl, ap, inl, inr, ℕ, zero, suc, List, [], length, take, drop, map, Option, Some, None, slice_get, arith, append_assoc, append-nil, Bool, true, false, get_or, drop-cons, length-append, length-drop}
+use Rattle.std.proofs.Common.{◌⊎◌, ◌≡◌, ◌≤◌, ◌<◌, ◌+◌, ◌-◌, ◌∷◌, ◌++◌, ◌∙◌, sym, refl, ap, inl, inr, ℕ, zero, suc, List, [], length, take, drop, Option, Some, None, slice_get, arith, append_assoc, append-nil, true, false, get_or, drop-cons, length-append, length-drop}
 use Rattle.std.specs.List.{list_all, prefix_len}
 use Rattle.std.specs.Prelude.{nat_lt}
 use Rattle.std.proofs.lemmas.Bool.{cases_Bool, ltb-true}
 use Rattle.std.proofs.Math.ListN.{drop_of_length-le}
 use Rattle.std.proofs.lemmas.List.{length-take-le, take-append-le}
 use Rattle.pipe_text.specs.declared.lexeme.Symbol.{Symbol}
-use Rattle.pipe_text.specs.Token.{Lex, Word, Quoted, Digits, IsLex, IsLongest, Lexes, is_blank, is_digit, is_letter, is_name, is_word, spelled, view}
+use Rattle.pipe_text.specs.Token.{Lex, Word, Quoted, Digits, IsLex, IsLongest, Lexes, is_blank, is_digit, is_letter, is_name, is_word, spelled}
 use Rattle.pipe_text.specs.Reading.{after, behind, body_at, first, first_symbol, front_of, is_next, joined, kept_more, lex, named, quoted_at, run, signed, symbols, texted, with_first}
-use Rattle.pipe_text.proofs.Bytes.{and_true, cons_inj, drop_run, no_eq, run_splits, some_inj, take_run, take_run_more}
+use Rattle.pipe_text.proofs.Bytes.{and_true, cons_inj, drop_run, no_eq, some_inj, take_run, take_run_more}
 use Rattle.pipe_text.proofs.Munch.{first_good, first_none, head_no_blank, lex_same, spelled_cons}
 
 drop_front : (w rest : List ℕ) → drop (length w) (w ++ rest) ≡ rest

@@ -1,11 +1,11 @@
 -- The token at the front is the longest, and the only longest.
-use Rattle.std.proofs.Common.{◌≡◌, ◌≤◌, ◌∷◌, ◌++◌, ◌∙◌, ◌==◌, cond, sym, refl, ap, inl, inr, ℕ, List, [], length, Option, Some, None, arith, append_assoc, append-nil, length-append, Bool, true, false, eqb→eq, slice_get}
+use Rattle.std.proofs.Common.{◌≡◌, ◌∷◌, ◌++◌, ◌∙◌, ◌==◌, sym, refl, ap, inl, inr, ℕ, List, [], Option, Some, None, arith, append_assoc, append-nil, true, false, eqb→eq, slice_get}
 use Rattle.std.specs.List.{list_all}
 use Rattle.std.proofs.lemmas.Bool.{cases_Bool}
 use Rattle.pipe_text.specs.declared.lexeme.Symbol.{Symbol}
 use Rattle.pipe_text.specs.Token.{Lex, Word, Quoted, Digits, Text, Sign, IsLex, IsLongest, is_blank, is_body, is_digit, is_letter, is_name, is_word, spelled, symbol_text}
 use Rattle.pipe_text.specs.Reading.{behind, body_at, first, first_symbol, is_next, named, quoted_at, run, signed, symbols, texted}
-use Rattle.pipe_text.proofs.Bytes.{Kind, Letter, Digit, Back, Mark, Other, and_true, body_back, body_found, cons_inj, digit_no_letter, kind, run_good, run_most, run_splits, run_until, some_inj}
+use Rattle.pipe_text.proofs.Bytes.{Kind, Letter, Digit, Back, Mark, Other, body_back, body_found, cons_inj, digit_no_letter, kind, run_good, run_most, run_splits, run_until, some_inj}
 use Rattle.pipe_text.proofs.Symbols.{symbol_cons, symbol_same, symbol_stands, symbol_there}
 
 abbrev lex_kind : Lex → Kind

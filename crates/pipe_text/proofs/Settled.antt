@@ -1,7 +1,7 @@
 -- A line has tokens or a fault, and just one of them.
 use Rattle.std.proofs.Common.{◌≡◌, ◌≤◌, ◌<◌, ◌⊎◌, ◌∙◌, sym, refl, inl, inr, ℕ, List, [], length, Bool, true, false, arith}
 use Rattle.std.specs.Prelude.{◌≢◌, MatchBool, nat_le}
-use Rattle.std.specs.Str.{IsUtf8, is_utf8}
+use Rattle.std.specs.Str.{is_utf8}
 use Rattle.std.proofs.lemmas.Bool.{cases_Bool}
 use Rattle.std.proofs.lemmas.Str.{IsUtf8-from_is_utf8, is_utf8-from_IsUtf8}
 use Rattle.pipe_text.specs.declared.line.LineFault.{LineFault}

@@ -1,5 +1,5 @@
 -- The symbols.
-use Rattle.std.proofs.Common.{◌≡◌, ◌≤◌, ◌∷◌, ◌++◌, ◌∙◌, ◌==◌, ◌&&◌, sym, refl, ap, inl, inr, ℕ, List, [], length, Option, Some, None, arith, Bool, true, false, eqb→eq, slice_get}
+use Rattle.std.proofs.Common.{◌≡◌, ◌≤◌, ◌∷◌, ◌++◌, ◌∙◌, ◌==◌, sym, refl, ap, inl, inr, ℕ, List, [], length, Option, Some, None, arith, true, false, eqb→eq, slice_get}
 use Rattle.std.specs.List.{list_all}
 use Rattle.std.specs.Prelude.{nat_lt}
 use Rattle.std.proofs.lemmas.Bool.{cases_Bool}
@@ -7,7 +7,7 @@ use Rattle.pipe_text.specs.declared.lexeme.Symbol.{Symbol}
 use Rattle.pipe_text.specs.declared.lexeme.Symbol.TheVariants as s
 use Rattle.pipe_text.specs.Token.{symbol_text}
 use Rattle.pipe_text.specs.Reading.{begins, first_symbol, is_next, symbols}
-use Rattle.pipe_text.proofs.Bytes.{Kind, Other, and_true, cons_inj, kind, some_inj}
+use Rattle.pipe_text.proofs.Bytes.{Other, and_true, cons_inj, kind, some_inj}
 use Rattle.pipe_text.specs.Token.{is_blank}
 
 -- a symbol's first character

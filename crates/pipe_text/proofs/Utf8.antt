@@ -1,8 +1,8 @@
 -- The bytes of each token of a UTF-8 line are UTF-8.
-use Rattle.std.proofs.Common.{◌≡◌, ◌≤◌, ◌<◌, ◌∷◌, ◌++◌, ◌∙◌, ◌==◌, ◌&&◌, sym, refl, ap, inl, inr, ℕ, zero, suc, List, [], length, take, drop, arith, append_assoc, Bool, true, false, get_or}
+use Rattle.std.proofs.Common.{◌≡◌, ◌≤◌, ◌<◌, ◌∷◌, ◌++◌, refl, ap, ℕ, List, [], length, take, drop, arith, append_assoc, Bool, true, get_or}
 use Rattle.std.specs.List.{list_all}
 use Rattle.std.specs.Str.{IsAscii, IsUtf8, IsCharBoundary}
-use Rattle.std.proofs.lemmas.Bool.{cases_Bool, ltb-true}
+use Rattle.std.proofs.lemmas.Bool.{ltb-true}
 use Rattle.std.specs.Prelude.{nat_lt, IfOk, Result, Ok, Err, Vec}
 use Rattle.std.specs.Global.{Global}
 use Rattle.pipe_text.specs.declared.lexeme.Lexeme.{Lexeme}

@@ -1,5 +1,5 @@
 -- What a line says, and its first faults.
-use Rattle.std.specs.Prelude.{◌≡◌, ◌≤◌, ◌<◌, ◌≢◌, ◌⊎◌, ◌==◌, ℕ, Bool, true, false, List, [], ◌∷◌, length, MatchBool, if◌then◌else◌}
+use Rattle.std.specs.Prelude.{◌≡◌, ◌≤◌, ◌<◌, ◌≢◌, ◌⊎◌, ◌==◌, ℕ, Bool, true, List, [], ◌∷◌, length, MatchBool, if◌then◌else◌}
 use Rattle.std.specs.Str.{IsUtf8}
 use Rattle.pipe_text.specs.declared.line.LineFault.{LineFault}
 use Rattle.pipe_text.specs.declared.line.LineFault.TheVariants as faults

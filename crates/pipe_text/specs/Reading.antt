@@ -1,5 +1,5 @@
 -- The tokens of a line, read from left to right.
-use Rattle.std.specs.Prelude.{◌==◌, ◌-◌, ◌&&◌, not, nat_lt, ℕ, zero, suc, Bool, true, false, List, [], ◌∷◌, ◌++◌, length, Option, Some, None, if◌then◌else◌, slice_get}
+use Rattle.std.specs.Prelude.{◌==◌, ◌-◌, ◌&&◌, not, nat_lt, ℕ, zero, suc, Bool, false, List, [], ◌∷◌, ◌++◌, length, Option, Some, None, if◌then◌else◌, slice_get}
 use Rattle.pipe_text.specs.declared.lexeme.Symbol.{Symbol}
 use Rattle.pipe_text.specs.declared.lexeme.Symbol.TheVariants as s
 use Rattle.pipe_text.specs.Token.{Lex, Word, Quoted, Digits, Text, Sign, is_blank, is_digit, is_letter, is_name, is_word, spelled, step, symbol_text}

@@ -1,4 +1,4 @@
-use Rattle.std.proofs.Common.{rules, arith, ◌≡◌, ◌∙◌, sym, slice_get}
+use Rattle.std.proofs.Common.{rules, ◌≡◌, ◌∙◌, slice_get}
 use Rattle.std.proofs.lemmas.List.Sums.{prefix_len-le-length}
 use Rattle.pipe_text.specs.Token.{is_digit, is_word}
 use Rattle.pipe_text.proofs.Lexing.{front_digits, front_quoted, front_sign, front_text, front_word}

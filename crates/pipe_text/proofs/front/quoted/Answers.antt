@@ -1,4 +1,4 @@
-use Rattle.std.proofs.Common.{rules, sym, ◌≡◌, ◌∙◌}
+use Rattle.std.proofs.Common.{rules, sym, ◌∙◌}
 use Rattle.std.proofs.lemmas.List.Sums.{prefix_len-le-length}
 use Rattle.pipe_text.specs.Token.{is_name}
 use Rattle.pipe_text.proofs.Lexing.{part, quoted_empty, quoted_found, quoted_open}

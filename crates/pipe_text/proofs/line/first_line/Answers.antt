@@ -1,4 +1,4 @@
-use Rattle.std.proofs.Common.{rules, arith, ◌≡◌, ◌<◌, ◌+◌, length}
+use Rattle.std.proofs.Common.{rules, ◌<◌, ◌+◌, length}
 use Rattle.pipe_text.proofs.Cuts.{before_end, line_cut, line_whole}
 use Rattle.pipe_text.proofs.Lexing.{part}
 use Rattle.pipe_text.proofs.line.first_line.Goals as goal

@@ -1,6 +1,6 @@
-use Rattle.std.proofs.Common.{rules, arith, ◌≡◌, ◌∙◌}
+use Rattle.std.proofs.Common.{rules, arith}
 use Rattle.pipe_text.specs.Token.{view, views}
-use Rattle.pipe_text.proofs.Lexing.{begin, ends_few, ends_long, go_blank, go_none, go_token, no_tokens, part}
+use Rattle.pipe_text.proofs.Lexing.{ends_few, ends_long, go_blank, go_none, go_token, no_tokens, part}
 use Rattle.pipe_text.proofs.line.tokens.Goals as goal
 
 pub loop-at-preserved-then-blank : goal.loop-at-preserved-then-blank
