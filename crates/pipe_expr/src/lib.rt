@@ -1,0 +1,15 @@
+//! Expressions, read from the tokens of a line.
+//!
+//! `Reads` says by cases which tokens read as which expression; `expression` finds the longest at the front.
+#![tactic(auto)]
+
+mod expr;
+mod parser;
+mod token;
+
+pub use expr::{Expr, Op};
+pub use parser::{ParseError, expression, int, name, whole_expression};
+pub use token::{Reserved, Token, Verb};
+
+#[cfg(test)]
+mod tests;
