@@ -1,5 +1,5 @@
 -- Hash: the hashes of values and of rows, each below 2 ^ 32.
-use Rattle.std.specs.Prelude.{ℕ, ◌+◌, ◌*◌, ◌%◌, ◌^◌, List, fold}
+use Rattle.std.specs.Prelude.{ℕ, List, fold}
 use Rattle.par_laws.specs.Hash.{hash_step, int_hash, text_hash}
 use Rattle.par_rows.specs.declared.value.Value.{Value}
 use Rattle.par_rows.specs.declared.value.Value.TheVariants as v

@@ -1,8 +1,8 @@
 -- Order: the order of values and of rows, and its laws.
-use Rattle.std.specs.Prelude.{◌≡◌, refl, Bool, true, false, List, [], ◌∷◌, ℕ, ℤ, encode_utf8_all}
+use Rattle.std.specs.Prelude.{◌≡◌, refl, true, List, [], ◌∷◌, encode_utf8_all}
 use Rattle.std.specs.Cmp.{IsTotalOrder, on_total, int_cmp_total, Equal-is}
 use Rattle.std.specs.Cmp.Lexicographic.{lists_total, nat_list_cmp_total, same_text, slice_cmp, texts_ties}
-use Rattle.std.specs.Ordering.{eq_by_cmp, int_cmp, is_eq, is_gt, is_lt, ordering_reverse, ordering_then}
+use Rattle.std.specs.Ordering.{eq_by_cmp, int_cmp, is_eq, ordering_reverse, ordering_then}
 use Rattle.std.specs.declared.cmp.Ordering.{Ordering}
 use Rattle.std.specs.declared.cmp.Ordering.TheVariants.{Less, Equal, Greater}
 use Rattle.std.proofs.Common.{sym, ap, ◌∙◌}

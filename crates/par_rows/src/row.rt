@@ -1,8 +1,8 @@
-ghost use Rattle.std.specs.Prelude.{◌≡◌, ◌≤◌, ◌<◌, ◌∷◌, ◌++◌, [], refl, IfOk, is_ok, if◌then◌else◌, length, option_copied, slice_get};
-ghost use Rattle.std.specs.Cmp.{eq_by_cmp_equiv, partial_equiv_from_equiv, po, on_total};
+ghost use Rattle.std.specs.Prelude.{◌≡◌, ◌∷◌, ◌++◌, [], refl, IfOk, is_ok, if◌then◌else◌, option_copied, slice_get};
+ghost use Rattle.std.specs.Cmp.{eq_by_cmp_equiv, partial_equiv_from_equiv, po};
 ghost use Rattle.std.specs.Ordering.{eq_by_cmp};
 ghost use Rattle.std.specs.declared.option.Option.TheVariants.{Some};
-ghost use Rattle.par_rows.specs.Order.{row_cmp, row_told, row_total, values_cmp};
+ghost use Rattle.par_rows.specs.Order.{row_cmp, row_told, row_total};
 ghost use Rattle.par_rows.specs.Hash.{row_hash};
 
 use crate::value::Value;

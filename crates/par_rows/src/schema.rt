@@ -1,5 +1,3 @@
-ghost use Rattle.std.specs.Prelude.{◌≡◌, IfOk};
-
 use par_laws::{Keep, Memory, Shown, Words};
 use std::alloc::Global;
 use std::collections::LinkedList;

@@ -1,5 +1,3 @@
-ghost use Rattle.std.specs.Prelude.{◌≡◌, IfOk};
-
 use crate::row::Row;
 use crate::schema::{Column, Schema};
 use par_laws::{Keep, Memory, Shown};
