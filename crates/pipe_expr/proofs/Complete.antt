@@ -1,5 +1,5 @@
 -- What is in the grammar is read.
-use Rattle.std.proofs.Common.{◌≡◌, ◌==◌, ◌≤◌, ◌<◌, ◌+◌, ◌-◌, ◌∷◌, ◌++◌, ◌∙◌, ◌⊎◌, sym, refl, ap, inl, inr, ℕ, ℤ, zero, suc, List, [], Option, Some, None, Bool, true, false, arith, append_assoc, append-nil, nat_lt, eqb→eq, eq-eqb}
+use Rattle.std.proofs.Common.{◌≡◌, ◌==◌, ◌≤◌, ◌<◌, ◌+◌, ◌-◌, ◌∷◌, ◌++◌, ◌∙◌, ◌⊎◌, sym, refl, ap, inl, inr, ℕ, ℤ, zero, suc, List, [], Some, None, true, arith, append_assoc, nat_lt, eqb→eq, eq-eqb}
 use Rattle.std.proofs.lemmas.Bool.{cases_Bool}
 use Rattle.pipe_expr.specs.declared.token.Token.{Token}
 use Rattle.pipe_expr.specs.declared.token.Token.TheVariants as t
@@ -7,9 +7,8 @@ use Rattle.pipe_expr.specs.declared.token.Reserved.TheVariants as r
 use Rattle.pipe_text.specs.declared.lexeme.Symbol.TheVariants as m
 use Rattle.pipe_expr.specs.declared.expr.Op.{Op}
 use Rattle.pipe_expr.specs.declared.expr.Op.TheVariants as o
-use Rattle.pipe_expr.specs.Grammar.{Tree, Number, Texted, Named, Length, Valued, Inside, Negated, Joined, Reads, IsInt, IsName, level, left_level, sign, int_of}
-use Rattle.pipe_expr.specs.Reading.{Found, ◌>>=◌, op_of, of_level, op_at, int_at, name_at, closed, opened, atom, more, negation, read}
-use Rattle.pipe_expr.proofs.Basics.{some_inj}
+use Rattle.pipe_expr.specs.Grammar.{Tree, Number, Texted, Named, Length, Valued, Inside, Negated, Joined, Reads, IsInt, IsName, level, left_level, sign}
+use Rattle.pipe_expr.specs.Reading.{Found, ◌>>=◌, op_of, op_at, int_at, name_at, atom, more, negation, read}
 use Rattle.pipe_expr.proofs.Steps.{differs}
 use Rattle.pipe_expr.proofs.Sound.{looser}
 

@@ -1,5 +1,5 @@
 -- What reading gives is in the grammar.
-use Rattle.std.proofs.Common.{◌≡◌, ◌==◌, ◌≤◌, ◌<◌, ◌-◌, ◌∷◌, ◌++◌, ◌∙◌, sym, refl, ap, inl, inr, ℕ, ℤ, zero, suc, List, [], length, Option, Some, None, Bool, true, false, arith, append_assoc, append-nil, length-append, eqb→eq, cond}
+use Rattle.std.proofs.Common.{◌≡◌, ◌==◌, ◌≤◌, ◌-◌, ◌∷◌, ◌++◌, ◌∙◌, sym, refl, ap, inl, inr, ℕ, ℤ, zero, suc, List, [], Option, Some, None, true, false, arith, append_assoc, append-nil, eqb→eq, cond}
 use Rattle.std.proofs.lemmas.Bool.{cases_Bool}
 use Rattle.pipe_expr.specs.declared.token.Token.{Token}
 use Rattle.pipe_expr.specs.declared.token.Token.TheVariants as t

@@ -1,5 +1,5 @@
 -- One step of the parser, over plain data.
-use Rattle.std.proofs.Common.{◌≡◌, ◌==◌, ◌≤◌, ◌<◌, ◌+◌, ◌-◌, ◌*◌, ◌∷◌, refl, ap, inl, inr, Bool, true, false, eqb→eq, eq-eqb, ℕ, zero, suc, List, [], length, Option, Some, None, Result, arith}
+use Rattle.std.proofs.Common.{◌≡◌, ◌==◌, ◌≤◌, ◌<◌, ◌+◌, ◌-◌, ◌*◌, ◌∷◌, refl, ap, inl, inr, true, false, eqb→eq, eq-eqb, ℕ, zero, suc, List, [], length, Option, Some, None, Result, arith}
 use Rattle.std.proofs.lemmas.Bool.{cases_Bool}
 use Rattle.pipe_expr.specs.declared.token.Token.{Token}
 use Rattle.pipe_expr.specs.declared.token.Token.TheVariants as t

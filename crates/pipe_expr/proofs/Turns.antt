@@ -1,14 +1,13 @@
 -- So many turns are enough, and more change nothing.
-use Rattle.std.proofs.Common.{◌≡◌, ◌==◌, ◌≤◌, ◌<◌, ◌+◌, ◌-◌, ◌*◌, ◌∷◌, ◌++◌, ◌∙◌, sym, refl, ap, inl, inr, ℕ, zero, suc, List, [], length, Option, Some, None, Bool, true, false, arith, append_assoc, append-nil, length-append, eqb→eq, cond}
+use Rattle.std.proofs.Common.{◌≡◌, ◌==◌, ◌≤◌, ◌<◌, ◌+◌, ◌*◌, ◌∷◌, ◌++◌, ◌∙◌, refl, ap, inl, inr, ℕ, zero, suc, List, [], length, Option, Some, None, arith, length-append, eqb→eq, cond}
 use Rattle.std.proofs.lemmas.Bool.{cases_Bool}
 use Rattle.pipe_expr.specs.declared.token.Token.{Token}
 use Rattle.pipe_expr.specs.declared.token.Token.TheVariants as t
 use Rattle.pipe_expr.specs.declared.token.Reserved.TheVariants as r
 use Rattle.pipe_text.specs.declared.lexeme.Symbol.TheVariants as m
 use Rattle.pipe_expr.specs.declared.expr.Op.{Op}
-use Rattle.pipe_expr.specs.Grammar.{Tree, Number, Texted, Named, Length, Valued, Inside, Negated, Joined, Reads, level, left_level, sign}
-use Rattle.pipe_expr.specs.Reading.{Found, ◌>>=◌, op_at, int_at, closed, opened, atom, going, more, negation, read, expr_at}
-use Rattle.pipe_expr.proofs.Basics.{bind_some, some_inj}
+use Rattle.pipe_expr.specs.Grammar.{Tree, Number, Texted, Named, Length, Valued, Inside, Negated, Joined, Reads, sign}
+use Rattle.pipe_expr.specs.Reading.{Found, ◌>>=◌, op_at, atom, going, more, negation, read, expr_at}
 use Rattle.pipe_expr.proofs.Sound.{From, sound, sounds}
 use Rattle.pipe_expr.proofs.Complete.{Stops, complete}
 

@@ -1,10 +1,10 @@
 -- What all tokens of a list read as.
-use Rattle.std.proofs.Common.{◌≡◌, ◌==◌, ◌∷◌, ◌++◌, ◌∙◌, sym, ap, suc, List, [], length, Some, None, append-nil, arith, true, false, eqb→eq}
+use Rattle.std.proofs.Common.{◌≡◌, ◌==◌, ◌∷◌, ◌∙◌, sym, ap, suc, List, [], length, Some, None, append-nil, arith, true, false, eqb→eq}
 use Rattle.pipe_expr.specs.declared.token.Token.{Token}
 use Rattle.pipe_expr.specs.declared.parser.ParseError.{ParseError}
 use Rattle.pipe_expr.specs.declared.parser.ParseError.TheVariants as errors
 use Rattle.pipe_expr.specs.Grammar.{Tree, Reads}
-use Rattle.pipe_expr.specs.Reading.{Fails, Found, expr_at}
+use Rattle.pipe_expr.specs.Reading.{Fails, expr_at}
 use Rattle.pipe_expr.proofs.Basics.{some_inj}
 use Rattle.pipe_expr.proofs.Turns.{expr-again, expr-sound}
 

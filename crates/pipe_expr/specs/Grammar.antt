@@ -1,10 +1,9 @@
 -- Which tokens read as which expression.
-use Rattle.std.specs.Prelude.{◌≡◌, ◌<◌, ◌≤◌, ◌+◌, ◌-◌, ◌⊎◌, ◌^◌, ℕ, List, [], ◌∷◌, ◌++◌, ℤ, pos, negsuc, neg_ℤ, Option, Some, None, nat_lt, nat_le, if◌then◌else◌, Bool, true, false}
+use Rattle.std.specs.Prelude.{◌≡◌, ◌≤◌, ◌-◌, ◌⊎◌, ◌^◌, ℕ, List, [], ◌∷◌, ◌++◌, ℤ, pos, neg_ℤ, Option, Some, None, nat_lt, nat_le, if◌then◌else◌, Bool, true, false}
 use Rattle.pipe_expr.specs.declared.token.Token.{Token}
 use Rattle.pipe_expr.specs.declared.token.Token.TheVariants as t
 use Rattle.pipe_expr.specs.declared.token.Reserved.TheVariants as r
 use Rattle.pipe_expr.specs.declared.token.Verb.{Verb}
-use Rattle.pipe_expr.specs.declared.token.Verb.TheVariants as v
 use Rattle.pipe_text.specs.declared.lexeme.Symbol.TheVariants as m
 use Rattle.pipe_expr.specs.declared.expr.Op.{Op}
 use Rattle.pipe_expr.specs.declared.expr.Op.TheVariants as o

@@ -1,5 +1,5 @@
 -- Reading from left to right.
-use Rattle.std.specs.Prelude.{◌≡◌, ◌==◌, ◌+◌, ◌*◌, length, ℕ, zero, suc, Bool, true, false, if◌then◌else◌, List, [], ◌∷◌, Option, Some, None, Result, Ok, Err, ℤ}
+use Rattle.std.specs.Prelude.{◌≡◌, ◌==◌, ◌+◌, ◌*◌, length, ℕ, zero, suc, true, false, if◌then◌else◌, List, [], ◌∷◌, Option, Some, None, Result, Ok, Err, ℤ}
 use Rattle.std.specs.Borrow.{Bor}
 use Rattle.pipe_expr.specs.declared.token.Token.{Token}
 use Rattle.pipe_expr.specs.declared.token.Token.TheVariants as t

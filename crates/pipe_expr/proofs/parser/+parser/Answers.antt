@@ -3,7 +3,7 @@ use Rattle.std.proofs.lemmas.Result.{err_from_is_err_and}
 use Rattle.pipe_expr.specs.Grammar.{view}
 use Rattle.pipe_expr.specs.Reading.{seen, read}
 use Rattle.pipe_expr.proofs.Basics.{some_inj}
-use Rattle.pipe_expr.proofs.Steps.{level_zero, level_four, level_fails, negation_fails, level_goes, chain_ends, chain_stops, chain_fails, chain_goes, chain_once}
+use Rattle.pipe_expr.proofs.Steps.{level_zero, level_four, level_fails, level_goes, chain_ends, chain_stops, chain_fails, chain_goes, chain_once}
 use Rattle.pipe_expr.proofs.parser.+parser.Goals as goal
 
 pub at_level-returns-then-level-eq0-clause-gives : goal.at_level-returns-then-level-eq0-clause-gives
