@@ -4,3 +4,4 @@ pub mod Sound
 pub mod Complete
 pub mod Turns
 pub mod Whole
+pub mod Deep

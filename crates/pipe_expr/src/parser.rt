@@ -6,14 +6,16 @@ ghost use Rattle.pipe_expr.specs.Reading.{Gives, atom, more, negation, read, op_
 
 use crate::expr::{Expr, Op};
 use crate::token::{Reserved, Token};
-use par_laws::{Keep, Memory, Words};
+use par_laws::{Keep, Words};
 use pipe_text::Symbol;
 use std::alloc::{AllocError, AllocFailed, Global};
 
 /// Why tokens gave no expression.
-#[derive(Debug, Clone, Copy)]
+#[derive(Clone, Copy, Debug, PartialEq, Eq)]
 pub enum ParseError {
+    /// The tokens don't read as what was asked for.
     Shape,
+    /// Want of memory, of which no clause says when it comes.
     Memory,
 }
 
@@ -107,7 +109,7 @@ fn number(negative: bool, n: u64) -> Option<i64>
     }
 }
 
-/// The int at the front.
+/// The int at the front, and the tokens after it: digits, perhaps behind a minus, within 64 bits. Takes no memory.
 #[tactic(auto, unfolding(crate::specs::Reading::int_at))]
 pub fn int(tokens: &[Token]) -> Result<(i64, &[Token]), ParseError>
     ensures shorter { IfOk result (λ x. length x.1.now < length tokens.now) }
@@ -130,7 +132,7 @@ pub fn int(tokens: &[Token]) -> Result<(i64, &[Token]), ParseError>
     }
 }
 
-/// The name at the front.
+/// The name at the front, and the tokens after it: a word that is not reserved, or a quoted name.
 #[tactic(auto, unfolding(crate::specs::Reading::name_at))]
 pub fn name(alloc: Global, tokens: &[Token]) -> Result<(Words, &[Token]), ParseError>
     ensures shorter { IfOk result (λ x. length x.1.now < length tokens.now) }
@@ -303,7 +305,7 @@ fn go_on(
     go_on(alloc, level, both, rest)
 }
 
-/// The longest expression at the front.
+/// The longest expression at the front, and the tokens after it. It goes as deep as the tokens nest.
 pub fn expression(alloc: Global, tokens: &[Token]) -> Result<(Expr, &[Token]), ParseError>
     ensures shorter { IfOk result (λ x. length x.1.now < length tokens.now) }
     ensures gives { Gives seen result (expr_at tokens.now) }

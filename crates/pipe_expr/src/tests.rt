@@ -1,4 +1,6 @@
-use crate::{Expr, Op, ParseError, Reserved, Token, Verb, whole_expression};
+use crate::{
+    Expr, Op, ParseError, Reserved, Token, Verb, divides_by_ints, is_deeper, whole_expression,
+};
 use par_laws::{Memory, Words};
 use pipe_text::Symbol;
 use std::alloc::Global;
@@ -101,7 +103,23 @@ fn groups_to_the_left(rt: HostRuntime) {
 }
 
 #[test]
-fn deep_nests(rt: HostRuntime) {
+fn deep_nests(rt: HostRuntime) -> Result<(), ParseError> {
     assert_eq!(rt; form(rt.alloc(), &[b'('; 512]), 30);
     assert_eq!(rt; form(rt.alloc(), &[b'N'; 512]), 30);
+    let mut text = Vec::new(rt.alloc());
+    for _ in 0..63 {
+        text.push(b'N')?;
+    }
+    text.push(b'x')?;
+    assert!(rt; !is_deeper(64, &read(rt.alloc(), &text)?));
+    text.insert(0, b'N')?;
+    assert!(rt; is_deeper(64, &read(rt.alloc(), &text)?));
+    Ok(())
+}
+
+#[test]
+fn divisors(rt: HostRuntime) -> Result<(), ParseError> {
+    assert!(rt; divides_by_ints(&read(rt.alloc(), b"x/7%2")?));
+    assert!(rt; !divides_by_ints(&read(rt.alloc(), b"1+(x/x)")?));
+    Ok(())
 }
