@@ -19,8 +19,41 @@ impl Keep for i64 {
     }
 }
 
+/// Takes no memory.
+impl Keep for u64 {
+    fn copy(&self, _alloc: Global) -> Result<u64, Memory> {
+        Ok(*self)
+    }
+}
+
 impl Keep for Words {
     fn copy(&self, alloc: Global) -> Result<Words, Memory> {
         Words::from_text(alloc, self.as_str())
+    }
+}
+
+impl<T: Keep> Keep for Option<T> {
+    fn copy(&self, alloc: Global) -> Result<Option<T>, Memory> {
+        match self {
+            None => Ok(None),
+            Some(item) => Ok(Some(item.copy(alloc)?)),
+        }
+    }
+}
+
+impl<A: Keep + Drop, B: Keep + Drop> Keep for (A, B) {
+    fn copy(&self, alloc: Global) -> Result<(A, B), Memory> {
+        Ok((self.0.copy(alloc)?, self.1.copy(alloc)?))
+    }
+}
+
+/// In memory of exactly the length. Linear.
+impl<T: Keep + Drop> Keep for Vec<T> {
+    fn copy(&self, alloc: Global) -> Result<Vec<T>, Memory> {
+        let mut copies = Vec::with_capacity(alloc, self.len())?;
+        for item in self {
+            copies.push(item.copy(alloc)?)?;
+        }
+        Ok(copies)
     }
 }

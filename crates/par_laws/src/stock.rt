@@ -1,5 +1,6 @@
 // The stock monoids.
 pub mod both;
-pub mod extremes;
+pub mod greatest;
+pub mod least;
 pub mod lists;
 pub mod numbers;

@@ -1,34 +1,41 @@
-//! The signals and their seats.
-ghost use Rattle.std.specs.Prelude.{◌≡◌, ◌≤◌, true, [], length};
-ghost use Rattle.par_signal.specs.Flags.{IsNamed};
-
-use crate::flags::{Flags, Told};
-use crate::view::View;
+//! The signals and their seats, and what contracts see of them.
+use crate::rule::{FlagRule, Told, View};
 use atomic_table::{Seat, Table};
-pub use par_laws::Memory;
 use std::alloc::Global;
+use std::marker::Model;
 
-mod steps;
-
-#[derive(Clone, Copy, Debug, PartialEq, Eq)]
-pub enum Abort {
-    No,
-    By(u32),
-    Memory,
-}
-
+/// The three flags, which threads share through a `&`. Contracts see which flags these are, and their marks.
+/// Every call with a seat asks that it is a seat of these flags; those of `open` and `split_seat` are, and stay so.
 #[derive(Drop)]
 pub struct Signals {
-    table: Table<(), View, Told, Flags, Global>,
-    ghost three: { table.shared.table_id.words ≡ 3 },
-    ghost few: { length table.shared.key.value.me.0.marks ≤ 4194304 },
+    pub(crate) table: Table<(), View, Told, FlagRule, Global>,
 }
 
-/// What a thread has seen of the flags. It has no bytes.
+impl Model for Signals {
+    ghost use Rattle.std.specs.Prelude.{◌≡◌, ◌≤◌, length};
+    ghost use Rattle.par_signal.specs.Seen as seen;
+
+    ghost Value = { seen.Flags };
+
+    ghost view = { λ s. record { table = s.table.shared.table_id; marks = s.table.shared.key.value.me.0.seen.of } };
+
+    ghost invariant = { λ s. (s.table.shared.table_id.words ≡ 3) × (length s.table.shared.key.value.me.0.seen.of ≤ 4194304) };
+}
+
+/// A thread's leave to step on the flags. Contracts see what it has seen of each flag and the steps that it took.
+/// It has no bytes.
 #[derive(Drop)]
 pub struct SignalSeat {
-    seat: Seat<(), View>,
-    ghost live: { seat.me.0.live ≡ true },
-    ghost bare: { seat.me.1 ≡ [] },
-    ghost named: { IsNamed seat.me.0.marks seat.me.0.low seat.me.0.high seat.me.0.abort },
+    pub(crate) seat: Seat<(), View>,
+}
+
+impl Model for SignalSeat {
+    ghost use Rattle.par_signal.specs.Seen.{Seen};
+    ghost use Rattle.par_signal.specs.Rule.{located, IsSeat};
+
+    ghost Value = { Seen };
+
+    ghost view = { λ s. located s.seat.table_id s.seat.me.0.seen };
+
+    ghost invariant = { λ s. IsSeat s.seat.me };
 }

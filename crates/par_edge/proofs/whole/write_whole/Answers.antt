@@ -1,10 +1,13 @@
-use Rattle.std.proofs.Common.{rules, arith, ◌≡◌, ◌-◌, take, drop, length}
+use Rattle.std.proofs.Common.{rules, arith}
 use Rattle.std.proofs.lemmas.Grind.{common_steps}
-use Rattle.par_edge.specs.declared.Failed.{Failed}
-use Rattle.par_edge.proofs.ReadParts.{appends}
+use Rattle.par_edge.specs.Sinks.{AppendsPart}
+use Rattle.par_edge.proofs.Writing.{goes_on, breaks_off}
 use Rattle.par_edge.proofs.whole.write_whole.Goals as goal
 
-pub loop-at-preserved : goal.loop-at-preserved
-loop-at-preserved g c =
-    let rest : take (length c.args.bytes.now - c.loop-at.at) (drop c.loop-at.at c.args.bytes.now) ≡ drop c.loop-at.at c.args.bytes.now = grind (arith, common_steps) in
-    (search rules, appends Failed _ _ _ _ _ _ (c.loop-at.invariant.1) (rw (c.in-Ok.is, rest) at c.write.ensures.bytes), search rules)
+pub returns-in_err-count-clause-part : goal.returns-in_err-count-clause-part
+returns-in_err-count-clause-part g c =
+    let part : AppendsPart (g.K.Sink.state c.args.sink.now) (g.K.Sink.state c.write.new.self) c.args.bytes.now = breaks_off _ _ _ _ _ c.loop-rest.invariant c.in_err-count.ensures.fails in
+    search rules
+
+pub loop-rest-preserved : goal.loop-rest-preserved
+loop-rest-preserved g c = goes_on _ _ _ _ _ _ c.in_ok-count.count c.loop-rest.invariant c.in_ok-count.ensures.takes (grind (arith, common_steps))

@@ -1,9 +1,9 @@
-use Rattle.std.proofs.Common.{length, ◌-◌, ◌≤◌, take}
-use Rattle.par_edge.specs.Causes.{AppendedAll}
+use Rattle.std.proofs.Common.{length}
+use Rattle.par_edge.proofs.Writing.{HasWritten}
 use Rattle.par_edge.proofs.whole.write_whole.Given as goal
 
-abbrev pub invariant-loop-at : goal.invariant-loop-at
-invariant-loop-at g l = (l.at ≤ length l.bytes) × AppendedAll (take l.at l.bytes) (g.K.Sink.written l.fn.sink) (g.K.Sink.written l.sink) × (g.K.Sink.faults l.fn.sink ≤ g.K.Sink.faults l.sink)
+abbrev pub invariant-loop-rest : goal.invariant-loop-rest
+invariant-loop-rest g l = HasWritten (g.K.Sink.state l.fn.sink) (g.K.Sink.state l.sink) l.bytes l.rest
 
-abbrev pub decreases-loop-at : goal.decreases-loop-at
-decreases-loop-at g l = length l.bytes - l.at
+abbrev pub decreases-loop-rest : goal.decreases-loop-rest
+decreases-loop-rest g l = length l.rest

@@ -1,0 +1,4 @@
+pub mod Scanning
+pub mod Fronts
+pub mod Faults
+pub mod Lasts

@@ -1,0 +1,4 @@
+pub mod Stock
+pub mod Steps
+pub mod Passing
+pub mod Merges

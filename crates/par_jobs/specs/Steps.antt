@@ -1,0 +1,76 @@
+-- What a leaf reads of a flag on its way, and the first fault that it meets.
+use Rattle.std.specs.Prelude.{◌≡◌, ℕ, ◌+◌, ◌-◌, ◌<◌, ◌≤◌, ◌⊎◌, List, length, Bool, true, false, Option, Some, None}
+use Rattle.par_laws.specs.declared.test.Verdict.{Verdict}
+use Rattle.par_laws.specs.declared.test.Verdict.TheVariants.{Pass, Fail, Fault}
+use Rattle.par_laws.specs.declared.tried.FaultAt.{FaultAt}
+use Rattle.par_laws.specs.Marks.{IsMarked, stop}
+use Rattle.par_signal.specs.Seen.{Seen}
+use Rattle.par_signal.specs.Values.{IsSet}
+use Rattle.par_task.specs.Leaves.{IsReadAgain}
+
+-- the first fault so far, with one verdict more
+abbrev pub noted : Option FaultAt → Verdict → ℕ → Option FaultAt
+noted (Some f) v at = Some f
+noted None Pass at = None
+noted None Fail at = None
+noted None (Fault k) at = Some (record { at = at; kind = k })
+
+-- the verdict is Fail
+abbrev pub fails : Verdict → Bool
+fails Pass = false
+fails Fail = true
+fails (Fault k) = false
+
+-- a read of the low flag changes only what was seen of it, which falls; to a seat that is alone it tells nothing new
+pub record IsLowRead (old new : Seen) : Type 0 where
+  pub of : new.of ≡ old.of
+  pub low : new.low ≤ old.low
+  pub high : new.high ≡ old.high
+  pub abort : new.abort ≡ old.abort
+  pub alone : new.alone ≡ old.alone
+  pub still : old.alone ≡ true → new.low ≡ old.low
+
+-- the low flag was read again before item at, and is at most at
+pub record IsPast (marks : List Bool) (old : Seen) (lo at left : ℕ) : Type 0 where
+  pub again : IsReadAgain (at - lo)
+  pub more : 0 < left
+  pub past : stop marks ≤ at
+  pub by_another : old.alone ≡ true → old.low ≤ at
+
+-- a read of the abort flag that finds it not set changes nothing that is told here
+pub record IsUnset (old new : Seen) : Type 0 where
+  pub unset : ¬ IsSet old.abort
+  pub of : new.of ≡ old.of
+  pub low : new.low ≡ old.low
+  pub high : new.high ≡ old.high
+  pub abort : ¬ IsSet new.abort
+  pub alone : new.alone ≡ old.alone
+
+-- a read of the abort flag that finds it set by item i
+pub record IsDecided (marks : List Bool) (old new : Seen) (i : ℕ) : Type 0 where
+  pub marked : IsMarked marks i
+  pub set : IsSet new.abort
+  pub by_another : old.alone ≡ true → ¬ IsSet old.abort → ⊥
+
+abbrev pub IsAbortRead : List Bool → Seen → Seen → Option ℕ → Type 0
+IsAbortRead marks old new None = IsUnset old new
+IsAbortRead marks old new (Some i) = IsDecided marks old new i
+
+-- a read of the abort flag before item at, which is made only after every 512 items while items are left
+pub record IsDecidedAgain (marks : List Bool) (old new : Seen) (lo at left i : ℕ) : Type 0 where
+  pub again : IsReadAgain (at - lo)
+  pub more : 0 < left
+  pub decided : IsDecided marks old new i
+
+-- what a seat that has seen no abort knows after it went on
+pub record IsGoingOn (old new : Seen) : Type 0 where
+  pub of : new.of ≡ old.of
+  pub low : new.low ≡ old.low
+  pub high : new.high ≡ old.high
+  pub abort : ¬ IsSet old.abort → ¬ IsSet new.abort
+  pub set : IsSet old.abort → IsSet new.abort
+  pub alone : new.alone ≡ old.alone
+
+abbrev pub IsAbortReadAgain : List Bool → Seen → Seen → ℕ → ℕ → ℕ → Option ℕ → Type 0
+IsAbortReadAgain marks old new lo at left None = IsGoingOn old new
+IsAbortReadAgain marks old new lo at left (Some i) = IsDecidedAgain marks old new lo at left i

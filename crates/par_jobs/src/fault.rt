@@ -1,0 +1,53 @@
+//! The least fault of a leaf, and what a verdict says.
+ghost use Rattle.std.specs.Prelude.{◌≡◌};
+ghost use Rattle.par_task.specs.Marking.{passes, halts};
+ghost use Rattle.par_jobs.specs.Steps.{noted, fails};
+
+use par_laws::{FaultAt, Verdict};
+
+// Whether the verdict is Pass.
+pub(crate) fn is_pass(verdict: Verdict) -> bool
+    ensures { result ≡ passes verdict }
+{
+    match verdict {
+        Verdict::Pass => true,
+        Verdict::Fail => false,
+        Verdict::Fault(_) => false,
+    }
+}
+
+// Whether the verdict is Fail.
+pub(crate) fn is_fail(verdict: Verdict) -> bool
+    ensures { result ≡ fails verdict }
+{
+    match verdict {
+        Verdict::Pass => false,
+        Verdict::Fail => true,
+        Verdict::Fault(_) => false,
+    }
+}
+
+// Whether the verdict is Pass or Fault.
+pub(crate) fn is_halt(verdict: Verdict) -> bool
+    ensures { result ≡ halts verdict }
+{
+    match verdict {
+        Verdict::Pass => true,
+        Verdict::Fail => false,
+        Verdict::Fault(_) => true,
+    }
+}
+
+// The first fault so far.
+pub(crate) fn note_fault(fault: Option<FaultAt>, verdict: Verdict, at: u32) -> Option<FaultAt>
+    ensures { result ≡ noted fault verdict at }
+{
+    match fault {
+        Some(first) => Some(first),
+        None => match verdict {
+            Verdict::Fault(kind) => Some(FaultAt { at, kind }),
+            Verdict::Pass => None,
+            Verdict::Fail => None,
+        },
+    }
+}

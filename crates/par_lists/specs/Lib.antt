@@ -1,0 +1,5 @@
+pub mod Choices
+pub mod Cuts
+pub mod Groups
+pub mod Scans
+pub mod Searches

@@ -1,0 +1,11 @@
+pub mod Marking
+pub mod Spans
+pub mod MarkedBy
+pub mod Leaves
+pub mod Seats
+pub mod Audits
+pub mod Alone
+pub mod Parts
+pub mod Chains
+pub mod Tails
+pub mod Runs

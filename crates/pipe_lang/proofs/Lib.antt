@@ -1,0 +1,2 @@
+mod Ints
+mod Lines

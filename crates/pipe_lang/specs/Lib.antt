@@ -1,0 +1,3 @@
+pub mod Tokens
+pub mod Plans
+pub mod Reading

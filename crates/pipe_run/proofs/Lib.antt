@@ -1,0 +1,4 @@
+mod Deciding
+mod Ending
+mod Pieces
+mod Rows
