@@ -1,0 +1,7 @@
+mod Bytes
+mod Symbols
+mod Munch
+mod Lexing
+mod Cuts
+mod Utf8
+mod Settled
