@@ -1,0 +1,45 @@
+ghost use Rattle.std.specs.Prelude.{◌≡◌, ℕ, List};
+
+use crate::node::Node;
+use par_index::{Leaf, Wanted};
+use par_laws::Memory;
+use std::alloc::Global;
+
+/// The leaves of one mixed hash, below the last level.
+#[derive(Drop)]
+pub struct Chain {
+    leaves: Vec<Leaf>,
+}
+
+impl Node for Chain {
+    ghost use Rattle.par_trie.specs.Places.{places_among};
+
+    ghost places = { λ chain q. places_among chain.leaves.items q };
+
+    fn empty(alloc: Global) -> Chain {
+        Chain {
+            leaves: Vec::new(alloc),
+        }
+    }
+
+    fn pair(alloc: Global, first: Leaf, second: Leaf) -> Result<Chain, Memory> {
+        let mut leaves = Vec::with_capacity(alloc, 2)?;
+        leaves.push_reserved(first);
+        leaves.push_reserved(second);
+        Ok(Chain { leaves })
+    }
+
+    fn find<W: Wanted>(&self, rest: u32, wanted: &W) -> Option<u32> {
+        for leaf in &self.leaves {
+            if leaf.rest == rest && wanted.is_at(leaf.at) {
+                return Some(leaf.at);
+            }
+        }
+        None
+    }
+
+    fn push(&mut self, _alloc: Global, leaf: Leaf) -> Result<(), Memory> {
+        self.leaves.push(leaf)?;
+        Ok(())
+    }
+}

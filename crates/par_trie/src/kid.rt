@@ -1,0 +1,45 @@
+ghost use Rattle.std.specs.Prelude.{◌≡◌, ℕ, ◌++◌, OnOk, OnErr};
+ghost use Rattle.par_index.specs.Places.{places_of, first_such};
+ghost use Rattle.par_trie.specs.Below.{places_at};
+
+use crate::node::Node;
+use par_index::{Leaf, Wanted};
+use par_laws::Memory;
+use std::alloc::Global;
+
+/// What stands below a digit.
+#[derive(Drop)]
+pub enum Kid<N> {
+    One(Leaf),
+    Below(Box<N>),
+}
+
+pub fn find_in<N: Node, W: Wanted>(kid: &Kid<N>, rest: u32, wanted: &W) -> Option<u32>
+    ensures { result ≡ first_such (W.is_wanted wanted.now) (places_at N.places kid.now rest) }
+{
+    match kid {
+        Kid::One(leaf) => {
+            if leaf.rest == rest && wanted.is_at(leaf.at) {
+                Some(leaf.at)
+            } else {
+                None
+            }
+        }
+        Kid::Below(node) => node.find(rest, wanted),
+    }
+}
+
+/// One more leaf below a digit. A refusal leaves the kid as it was.
+pub fn push_in<N: Node>(kid: &mut Kid<N>, alloc: Global, leaf: Leaf) -> Result<(), Memory>
+    ensures ok { OnOk result ((q : ℕ) → places_at N.places kid.new q ≡ places_at N.places kid.old q ++ places_of leaf q) }
+    ensures err { OnErr result ((q : ℕ) → places_at N.places kid.new q ≡ places_at N.places kid.old q) }
+{
+    match kid {
+        Kid::Below(node) => node.push(alloc, leaf),
+        Kid::One(old) => {
+            let node = Box::new(alloc, N::pair(alloc, *old, leaf)?)?;
+            *kid = Kid::Below(node);
+            Ok(())
+        }
+    }
+}
