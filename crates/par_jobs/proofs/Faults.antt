@@ -10,7 +10,7 @@ use Rattle.par_task.specs.Marking.{passes}
 use Rattle.par_task.specs.Spans.{IsSpan}
 use Rattle.par_task.specs.Parts.{between, Sound, IsLeastFault, IsSifted}
 use Rattle.par_jobs.specs.Steps.{noted, fails}
-use Rattle.par_jobs.specs.Merges.{sound_join, fault_left, IsSought, IsSiftedOf, not_found_by, sifted_by, kept_if}
+use Rattle.par_jobs.specs.Merges.{sound_join, fault_left, IsSought, IsSiftedOf, not_found_by, sifted_by, sifted_shown, kept_if}
 use Rattle.par_jobs.proofs.Scanning.{verdict_at}
 use Rattle.par_jobs.proofs.Fronts.{between_more, length-between}
 
@@ -57,8 +57,8 @@ few_filtered p source lo at x rest s h = omega (arith, filter_few p (between sou
 
 -- what a leaf that tests every item answers
 pub sifted_is :
-    {X A B : Type 0} (V : X → Verdict) (passing : List X → A → Type 0) (failing : List X → B → Type 0) (source : List X) (lo hi : ℕ) (fault : Option FaultAt) (a : A) (b : B) →
-    IsFaultSoFar (map V source) lo hi fault → passing (filter (λ x. passes (V x)) (between source lo hi)) a → failing (filter (λ x. fails (V x)) (between source lo hi)) b →
-    IsSiftedOf V passing failing source lo hi (sifted_by fault a b)
-sifted_is V passing failing source lo hi None a b s p q = record { sound = s; passed = p; failed = q }
-sifted_is V passing failing source lo hi (Some f) a b s p q = s
+    {X A B C D : Type 0} (f : A → C) (g : B → D) (V : X → Verdict) (passing : List X → C → Type 0) (failing : List X → D → Type 0) (source : List X) (lo hi : ℕ) (fault : Option FaultAt) (a : A) (b : B) →
+    IsFaultSoFar (map V source) lo hi fault → passing (filter (λ x. passes (V x)) (between source lo hi)) (f a) → failing (filter (λ x. fails (V x)) (between source lo hi)) (g b) →
+    IsSiftedOf V passing failing source lo hi (sifted_shown f g (sifted_by fault a b))
+sifted_is f g V passing failing source lo hi None a b s p q = record { sound = s; passed = p; failed = q }
+sifted_is f g V passing failing source lo hi (Some x) a b s p q = s

@@ -20,7 +20,7 @@ fn thresholds_and_an_audit(rt: HostRuntime) -> Result<(), Fail> {
         tested: 2,
     };
     let audit = Audit::of(vec![in rt.alloc(); leaf]?);
-    assert_eq!(rt; audit.leaves(), &[leaf]);
+    assert_eq!(rt; audit.leaves(), [leaf].as_slice());
     Ok(())
 }
 

@@ -21,13 +21,13 @@ loop-node-init g c =
     }
 
 pub run_leaf-requires-in-Some-clause-test : goal.run_leaf-requires-in-Some-clause-test
-run_leaf-requires-in-Some-clause-test g c = λ _ _. rw c.loop-node.invariant.test c.requires.test
+run_leaf-requires-in-Some-clause-test g c = rw c.loop-node.invariant.test c.requires.test
 
 pub run_leaf-requires-in-Some-clause-seat : goal.run_leaf-requires-in-Some-clause-seat
-run_leaf-requires-in-Some-clause-seat g c = λ _ _. c.loop-node.invariant.seat ∙ (c.run_leaf.ensures.seat.of ∙ ap (λ (s : Seen). s.of) c.in_ok-signals.ensures.seat)
+run_leaf-requires-in-Some-clause-seat g c = c.loop-node.invariant.seat ∙ (c.run_leaf.ensures.seat.of ∙ ap (λ (s : Seen). s.of) c.in_ok-signals.ensures.seat)
 
 pub run_leaf-requires-in-Some-clause-part : goal.run_leaf-requires-in-Some-clause-part
-run_leaf-requires-in-Some-clause-part g c = λ _ _. span_next (rw c.in-Some.ensures at c.loop-node.invariant.going)
+run_leaf-requires-in-Some-clause-part g c = span_next (rw c.in-Some.ensures at c.loop-node.invariant.going)
 
 pub run_leaf-requires-in-Some-clause-room : goal.run_leaf-requires-in-Some-clause-room
 run_leaf-requires-in-Some-clause-room g c =

@@ -36,8 +36,8 @@ add_if-requires g c =
     let scan = rw c.in-Some.ensures.first at i.scan in
     (_, few_filtered (λ x. passes (V x)) source _ _ _ _ scan.span c.args.self.now.small, i.passing)
 
-pub add_if-requires-2 : goal.add_if-requires-2
-add_if-requires-2 g c =
+pub add_if-requires-in-Some : goal.add_if-requires-in-Some
+add_if-requires-in-Some g c =
     let source = g.S.Splitter.items c.args.self.now.marked.split in
     let V = g.P.Test.verdict c.args.self.now.marked.inner in
     let i = c.loop-item.invariant in
@@ -90,7 +90,7 @@ returns-clause-good g c =
     let scan = rw i.lo_is at i.scan in
     let e : c.loop-item.at ≡ g.S.Splitter.lo c.args.input + length (g.S.Splitter.items c.args.input) = omega (arith, scan.ends, ap length c.in_default.ensures.none) in
     let hi = g.S.Splitter.lo c.args.input + length (g.S.Splitter.items c.args.input) in
-    rw c.outcome.ensures (sifted_is V _ _ source (g.S.Splitter.lo c.args.input) hi c.loop-item.fault _ _
+    rw c.outcome.ensures (sifted_is g.A.Built.Shown.shown g.B.Built.Shown.shown V _ _ source (g.S.Splitter.lo c.args.input) hi c.loop-item.fault _ _
     (subst (λ k. IsFaultSoFar (map V source) (g.S.Splitter.lo c.args.input) k c.loop-item.fault) e (rw i.lo_is at i.fault))
     (subst (λ k. g.A.Builder.built c.args.self.now.passing.now (filter (λ x. passes (V x)) (between source (g.S.Splitter.lo c.args.input) k)) (g.A.Built.Shown.shown c.loop-item.passing)) e (rw i.lo_is at i.passing))
     (subst (λ k. g.B.Builder.built c.args.self.now.failing.now (filter (λ x. fails (V x)) (between source (g.S.Splitter.lo c.args.input) k)) (g.B.Built.Shown.shown c.loop-item.failing)) e (rw i.lo_is at i.failing)))
