@@ -11,13 +11,15 @@ use par_edge::OpenGate;
 use par_jobs::{FrontJob, Nothing, SearchJob, Sought};
 use par_laws::{Memory, Test, Verdict};
 use par_splitter::{ArraySplitter, Splitter};
-use par_task::{run_alone, Marked};
+use par_task::{Marked, run_alone};
 use std::alloc::Global;
 use std::io;
 use std::time::{Duration, Instant};
 
 const ITEMS: usize = 4_194_304;
+
 const QUARTER: usize = 1_048_576;
+
 const ROUNDS: usize = 15;
 
 /// The test that a number is `least` or more.
@@ -41,10 +43,14 @@ impl<'a> Test<&'a i64> for AtLeast {
 }
 
 /// The index of the first item that passes, or the number of items, by one leaf of a low-flag job.
-fn by_low_flag(alloc: Global, items: &[i64], test: &AtLeast) -> Result<u32, Memory>
-    requires { length items.now ≤ 4194304 }
+fn by_low_flag<S: Splitter, P: Test<S::Item>>(
+    alloc: Global,
+    source: S,
+    test: &P,
+) -> Result<u32, Memory>
+    requires place { S.lo source ≡ 0 }
+    requires few { length (S.items source) ≤ 4194304 }
 {
-    let source = ArraySplitter::new(items);
     let split = source.dup();
     let job = FrontJob {
         marked: Marked::over(&split, test, true),
@@ -56,10 +62,14 @@ fn by_low_flag(alloc: Global, items: &[i64], test: &AtLeast) -> Result<u32, Memo
 }
 
 /// The index of an item that passes, or the number of items, by one leaf of an abort job.
-fn by_abort(alloc: Global, items: &[i64], test: &AtLeast) -> Result<u32, Memory>
-    requires { length items.now ≤ 4194304 }
+fn by_abort<S: Splitter, P: Test<S::Item>>(
+    alloc: Global,
+    source: S,
+    test: &P,
+) -> Result<u32, Memory>
+    requires place { S.lo source ≡ 0 }
+    requires few { length (S.items source) ≤ 4194304 }
 {
-    let source = ArraySplitter::new(items);
     let split = source.dup();
     let job = SearchJob {
         marked: Marked::over(&split, test, false),
@@ -97,6 +107,7 @@ fn count_all(items: &[i64], least: i64) -> u32 {
 }
 
 /// The best times of the four, in the order in which they stand above.
+#[derive(Drop)]
 struct Best {
     low: Duration,
     abort: Duration,
@@ -118,10 +129,10 @@ fn measure(rt: &HostRuntime, items: &[i64], name: &str) -> io::Result<()>
         let least = i64::MAX - (round % 2) as i64;
         let test = AtLeast { least };
         let start = Instant::now(rt)?;
-        found.0 = by_low_flag(rt.alloc(), items, &test).unwrap_or(0);
+        found.0 = by_low_flag(rt.alloc(), ArraySplitter::new(items), &test).unwrap_or(0);
         best.low = best.low.min(start.elapsed(rt)?);
         let start = Instant::now(rt)?;
-        found.1 = by_abort(rt.alloc(), items, &test).unwrap_or(0);
+        found.1 = by_abort(rt.alloc(), ArraySplitter::new(items), &test).unwrap_or(0);
         best.abort = best.abort.min(start.elapsed(rt)?);
         let start = Instant::now(rt)?;
         found.2 = by_loop(items, least);
@@ -131,7 +142,13 @@ fn measure(rt: &HostRuntime, items: &[i64], name: &str) -> io::Result<()>
         best.all = best.all.min(start.elapsed(rt)?);
     }
     println!(rt; "{name}: {} {} {} {}", found.0, found.1, found.2, found.3)?;
-    eprintln!(rt; "{name}: low flag {} us, abort {} us, plain loop {} us, count of all {} us", best.low.as_micros(), best.abort.as_micros(), best.plain.as_micros(), best.all.as_micros())
+    eprintln!(rt;
+        "{name}: low flag {} us, abort {} us, plain loop {} us, count of all {} us",
+        best.low.as_micros(),
+        best.abort.as_micros(),
+        best.plain.as_micros(),
+        best.all.as_micros()
+    )
 }
 
 fn main(rt: HostRuntime) -> io::Result<()> {
@@ -139,7 +156,9 @@ fn main(rt: HostRuntime) -> io::Result<()> {
     let mut value: i64 = 1;
     for _ in 0..ITEMS {
         items.push(value.min(i64::MAX - 2))?;
-        value = value.wrapping_mul(6_364_136_223_846_793_005).wrapping_add(1);
+        value = value
+            .wrapping_mul(6_364_136_223_846_793_005)
+            .wrapping_add(1);
     }
     if items.len() != ITEMS {
         return Ok(());

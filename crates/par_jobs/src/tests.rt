@@ -1,12 +1,13 @@
-ghost use Rattle.std.specs.Prelude.{◌≡◌, ◌≤◌, length, IfOk};
+//! What no clause says: that runs succeed where there is memory, and what their leaves did.
+ghost use Rattle.std.specs.Prelude.{◌≡◌, ◌≤◌, length, IfSome};
 
 use crate::{
-    Counting, Folding, Front, FrontJob, GatherJob, LastJob, Listing, Nothing, SearchJob, SiftJob,
-    Sifted, Sought,
+    Counting, Folding, Front, FrontJob, GatherJob, LastJob, Listing, SearchJob, SiftJob, Sifted,
+    Sought,
 };
 use par_edge::OpenGate;
 use par_laws::{FaultAt, Mapper, Memory, Never, Sum, Test, Verdict};
-use par_splitter::{ArraySplitter, RangeSplitter, Splitter};
+use par_splitter::{RangeSplitter, Splitter, range_count};
 use par_task::{Audit, Leaf, Marked, run_alone};
 use std::alloc::Global;
 use std::marker::PhantomData;
@@ -15,20 +16,21 @@ use std::test::Fail;
 /// Passes `least` and more, but has no truth value for `faulty`.
 #[derive(Clone, Copy, Drop)]
 struct Rule {
-    least: u32,
-    faulty: u32,
+    least: i64,
+    faulty: i64,
 }
 
-impl<'a> Test<&'a u32> for Rule {
-    ghost use Rattle.std.specs.Prelude.{cond, ◌==◌, nat_lt};
+impl Test<i64> for Rule {
+    ghost use Rattle.std.specs.Prelude.{cond, int_lt};
+    ghost use Rattle.std.specs.Ordering.{int_eq};
     ghost use Rattle.par_laws.specs.declared.test.Verdict.TheVariants.{Pass, Fail, Fault};
 
-    ghost verdict = { λ t x. cond (x == t.faulty) (Fault 7) (cond (nat_lt x t.least) Fail Pass) };
+    ghost verdict = { λ t x. cond (int_eq x t.faulty) (Fault 7) (cond (int_lt x t.least) Fail Pass) };
 
-    fn test(&self, item: &&'a u32) -> Verdict {
-        if **item == self.faulty {
+    fn test(&self, item: &i64) -> Verdict {
+        if *item == self.faulty {
             Verdict::Fault(7)
-        } else if **item < self.least {
+        } else if *item < self.least {
             Verdict::Fail
         } else {
             Verdict::Pass
@@ -38,35 +40,39 @@ impl<'a> Test<&'a u32> for Rule {
 
 struct Same;
 
-impl<'a> Mapper<&'a u32, u32> for Same {
+impl Mapper<i64, i64> for Same {
     ghost mapped = { λ _ x. x };
 
-    fn map(&self, _alloc: Global, item: &&'a u32) -> Result<u32, Memory> {
-        Ok(**item)
+    fn map(&self, _alloc: Global, item: &i64) -> Result<i64, Memory> {
+        Ok(*item)
     }
 }
 
-fn upto(alloc: Global, n: u32) -> Result<Vec<u32>, Fail>
-    requires { n ≤ 1000 }
-    ensures { IfOk result (λ v. length v.items ≡ n) }
+// The numbers from a on and before b, if they are few.
+fn from_to(a: i64, b: i64) -> Option<RangeSplitter>
+    ensures place { IfSome result (λ s. ⟦<RangeSplitter as Splitter>⟧.lo s ≡ 0) }
+    ensures few { IfSome result (λ s. length (⟦<RangeSplitter as Splitter>⟧.items s) ≤ 1000) }
 {
-    let mut items = Vec::new(alloc);
-    for i in 0..n {
-        items.push(i)?;
+    if range_count(a, b, 1) > 1000 {
+        return None;
     }
-    Ok(items)
+    let source = RangeSplitter::new(a, b, 1);
+    if source.remaining() > 1000 {
+        return None;
+    }
+    Some(source)
 }
 
 fn front(
     alloc: Global,
-    items: &[u32],
+    source: RangeSplitter,
     test: &Rule,
     level: u32,
-) -> Result<(Front<Vec<u32>>, Audit), Memory>
-    requires few { length items.now ≤ 1000 }
+) -> Result<(Front<Vec<i64>>, Audit), Memory>
+    requires place { ⟦<RangeSplitter as Splitter>⟧.lo source ≡ 0 }
+    requires few { length (⟦<RangeSplitter as Splitter>⟧.items source) ≤ 1000 }
     requires level { (1 ≤ level) × (level ≤ 64) }
 {
-    let source = ArraySplitter::new(items);
     let split = source.dup();
     let job = FrontJob {
         marked: Marked::over(&split, test, true),
@@ -79,10 +85,10 @@ fn front(
     run_alone(alloc, &job, test, &marks, source, level, &OpenGate)
 }
 
-fn last(alloc: Global, items: &[u32], test: &Rule) -> Result<u32, Memory>
-    requires { length items.now ≤ 1000 }
+fn last(alloc: Global, source: RangeSplitter, test: &Rule) -> Result<u32, Memory>
+    requires place { ⟦<RangeSplitter as Splitter>⟧.lo source ≡ 0 }
+    requires few { length (⟦<RangeSplitter as Splitter>⟧.items source) ≤ 1000 }
 {
-    let source = ArraySplitter::new(items);
     let split = source.dup();
     let job = LastJob {
         marked: Marked::over(&split, test, true),
@@ -92,10 +98,10 @@ fn last(alloc: Global, items: &[u32], test: &Rule) -> Result<u32, Memory>
     Ok(part)
 }
 
-fn search(alloc: Global, items: &[u32], test: &Rule) -> Result<(Sought, Audit), Memory>
-    requires { length items.now ≤ 1000 }
+fn search(alloc: Global, source: RangeSplitter, test: &Rule) -> Result<(Sought, Audit), Memory>
+    requires place { ⟦<RangeSplitter as Splitter>⟧.lo source ≡ 0 }
+    requires few { length (⟦<RangeSplitter as Splitter>⟧.items source) ≤ 1000 }
 {
-    let source = ArraySplitter::new(items);
     let split = source.dup();
     let job = SearchJob {
         marked: Marked::over(&split, test, false),
@@ -104,10 +110,10 @@ fn search(alloc: Global, items: &[u32], test: &Rule) -> Result<(Sought, Audit), 
     run_alone(alloc, &job, test, &marks, source, 4, &OpenGate)
 }
 
-fn sift(alloc: Global, items: &[u32], test: &Rule) -> Result<Sifted<Vec<u32>, u32>, Memory>
-    requires { length items.now ≤ 1000 }
+fn sift(alloc: Global, source: RangeSplitter, test: &Rule) -> Result<Sifted<Vec<i64>, u32>, Memory>
+    requires place { ⟦<RangeSplitter as Splitter>⟧.lo source ≡ 0 }
+    requires few { length (⟦<RangeSplitter as Splitter>⟧.items source) ≤ 1000 }
 {
-    let source = ArraySplitter::new(items);
     let split = source.dup();
     let job = SiftJob {
         marked: Marked::over(&split, test, false),
@@ -147,106 +153,121 @@ fn leaves_of_a_hundred(did: [(u32, u64); 7]) -> [Leaf; 7] {
 
 #[test]
 fn the_front_of_a_hundred(rt: HostRuntime) -> Result<(), Fail> {
-    let items = upto(rt.alloc(), 100)?;
-    let faulty = 1000;
-    let (part, audit) = front(rt.alloc(), &items, &Rule { least: 0, faulty }, 8)?;
-    assert!(rt; part.kept.is_empty() && part.end == 0 && !part.whole);
-    let skipped = (0, 0);
-    let want = leaves_of_a_hundred([
-        (100, 1),
-        skipped,
-        skipped,
-        skipped,
-        skipped,
-        skipped,
-        skipped,
-    ]);
-    assert_eq!(rt; audit.leaves(), want.as_slice());
-    let (part, audit) = front(rt.alloc(), &items, &Rule { least: 100, faulty }, 8)?;
-    assert!(rt; part.kept == items && part.end == 100 && part.whole);
-    let want = leaves_of_a_hundred([
-        (100, 1),
-        (100, 2),
-        (100, 3),
-        (100, 6),
-        (100, 13),
-        (100, 25),
-        (100, 50),
-    ]);
-    assert_eq!(rt; audit.leaves(), want.as_slice());
-    let (part, audit) = front(rt.alloc(), &items, &Rule { least: 1, faulty }, 8)?;
-    assert!(rt; part.kept.as_slice() == [0].as_slice() && part.end == 1 && !part.whole);
-    let skipped = (1, 0);
-    let want = leaves_of_a_hundred([
-        (100, 1),
-        (100, 1),
-        skipped,
-        skipped,
-        skipped,
-        skipped,
-        skipped,
-    ]);
-    assert_eq!(rt; audit.leaves(), want.as_slice());
+    let skipped = |flag| (flag, 0);
+    // The least number that is marked, and what the leaves did.
+    let cases: [(i64, u32, [(u32, u64); 7]); 3] = [
+        (
+            0,
+            0,
+            [
+                (100, 1),
+                skipped(0),
+                skipped(0),
+                skipped(0),
+                skipped(0),
+                skipped(0),
+                skipped(0),
+            ],
+        ),
+        (
+            100,
+            100,
+            [
+                (100, 1),
+                (100, 2),
+                (100, 3),
+                (100, 6),
+                (100, 13),
+                (100, 25),
+                (100, 50),
+            ],
+        ),
+        (
+            1,
+            1,
+            [
+                (100, 1),
+                (100, 1),
+                skipped(1),
+                skipped(1),
+                skipped(1),
+                skipped(1),
+                skipped(1),
+            ],
+        ),
+    ];
+    for (least, end, did) in cases {
+        let source = from_to(0, 100).ok_or("few")?;
+        let rule = Rule { least, faulty: -1 };
+        let (part, audit) = front(rt.alloc(), source, &rule, 8)?;
+        assert_eq!(rt; part.kept.len(), end as usize);
+        assert!(rt; part.end == end && part.whole == (end == 100));
+        assert_eq!(rt; audit.leaves(), leaves_of_a_hundred(did).as_slice());
+    }
     Ok(())
 }
 
 #[test]
-fn searches_of_four_items(rt: HostRuntime) -> Result<(), Fail> {
-    let items = [0u32, 5, 1, 6];
-    let over = |least| Rule {
-        least,
-        faulty: 1000,
-    };
-    let five = Rule {
-        least: 1000,
-        faulty: 5,
-    };
-    assert_eq!(rt; front(rt.alloc(), &items, &over(5), 4)?.0.end, 1);
-    assert_eq!(rt; front(rt.alloc(), &items, &over(10), 4)?.0.end, 4);
-    assert_eq!(rt; last(rt.alloc(), &items, &over(5))?, 4);
-    assert_eq!(rt; last(rt.alloc(), &items, &over(10))?, 0);
-    assert_eq!(rt; front(rt.alloc(), &items, &five, 4)?.0.end, 1);
-    assert_eq!(rt; front(rt.alloc(), &items[2..], &five, 4)?.0.end, 2);
-    assert_eq!(rt; front(rt.alloc(), &items[4..], &five, 4)?.0.end, 0);
+fn fronts_and_lasts(rt: HostRuntime) -> Result<(), Fail> {
+    // The range, the rule, and where its front ends and its last one stands, one on.
+    let cases: [(i64, i64, i64, i64, u32, u32); 7] = [
+        (0, 4, 3, -1, 3, 4),
+        (0, 4, 9, -1, 4, 0),
+        (0, 4, 9, 1, 1, 2),
+        (2, 4, 9, 1, 2, 0),
+        (4, 4, 9, 1, 0, 0),
+        (0, 8, 5, 3, 3, 8),
+        (0, 8, 9, 3, 3, 4),
+    ];
+    for (a, b, least, faulty, end, above) in cases {
+        let rule = Rule { least, faulty };
+        let source = from_to(a, b).ok_or("few")?;
+        assert_eq!(rt; front(rt.alloc(), source, &rule, 4)?.0.end, end);
+        let source = from_to(a, b).ok_or("few")?;
+        assert_eq!(rt; last(rt.alloc(), source, &rule)?, above);
+    }
     Ok(())
 }
 
 #[test]
-fn tests_that_fault(rt: HostRuntime) -> Result<(), Fail> {
-    let items = upto(rt.alloc(), 8)?;
-    let both = Rule {
-        least: 5,
-        faulty: 3,
-    };
-    let faults = Rule {
-        least: 1000,
-        faulty: 3,
-    };
-    let passes = Rule {
-        least: 5,
-        faulty: 1000,
-    };
+fn searches(rt: HostRuntime) -> Result<(), Fail> {
     let at = FaultAt { at: 3, kind: 7 };
-    assert_eq!(rt; front(rt.alloc(), &items, &both, 4)?.0.end, 3);
-    assert_eq!(rt; last(rt.alloc(), &items, &both)?, 8);
-    assert_eq!(rt; last(rt.alloc(), &items, &faults)?, 4);
-    let (sought, _) = search(rt.alloc(), &items, &both)?;
-    assert!(rt; matches!(sought, Sought::Found(5..=7)));
-    assert_eq!(rt; search(rt.alloc(), &items, &faults)?.0, Sought::Fell(at));
-    let (sought, audit) = search(rt.alloc(), &items, &passes)?;
+    let source = from_to(0, 8).ok_or("few")?;
+    let rule = Rule {
+        least: 5,
+        faulty: 3,
+    };
+    let (sought, audit) = search(rt.alloc(), source, &rule)?;
     assert_eq!(rt; sought, Sought::Found(5));
     let mut tested = 0u64;
     for leaf in audit.leaves() {
         tested = tested.wrapping_add(leaf.tested);
     }
     assert_eq!(rt; tested, 6);
-    assert!(rt;
-        matches!(
-            sift(rt.alloc(), &items, &both)?,
-            Sifted::Fell(FaultAt { at: 3, kind: 7 })
-        )
-    );
-    match sift(rt.alloc(), &items, &passes)? {
+    let rule = Rule {
+        least: 9,
+        faulty: 3,
+    };
+    let source = from_to(0, 8).ok_or("few")?;
+    assert_eq!(rt; search(rt.alloc(), source, &rule)?.0, Sought::Fell(at));
+    Ok(())
+}
+
+#[test]
+fn sifts(rt: HostRuntime) -> Result<(), Fail> {
+    let source = from_to(0, 8).ok_or("few")?;
+    let rule = Rule {
+        least: 5,
+        faulty: 3,
+    };
+    let fell = sift(rt.alloc(), source, &rule)?;
+    assert!(rt; matches!(fell, Sifted::Fell(FaultAt { at: 3, kind: 7 })));
+    let source = from_to(0, 8).ok_or("few")?;
+    let rule = Rule {
+        least: 5,
+        faulty: 9,
+    };
+    match sift(rt.alloc(), source, &rule)? {
         Sifted::Got(passing, failing) => {
             assert!(rt; passing.as_slice() == [5, 6, 7].as_slice() && failing == 5);
         }
@@ -257,7 +278,7 @@ fn tests_that_fault(rt: HostRuntime) -> Result<(), Fail> {
 
 #[test]
 fn folds_a_range(rt: HostRuntime) -> Result<(), Fail> {
-    let source = RangeSplitter::new(0, 5, 1);
+    let source = from_to(0, 5).ok_or("few")?;
     let split = source.dup();
     let job = GatherJob {
         marked: Marked::over(&split, &Never, false),
