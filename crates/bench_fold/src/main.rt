@@ -1,12 +1,13 @@
-//! A sum of 4,194,304 items through a splitter and a test, beside the same loop over a plain slice.
+//! A fold of 4,194,304 items through a splitter, a test and a monoid, beside the same loop over a plain slice.
 //!
 //! Both sums go to standard output. The best time of each and their ratio go to standard error.
 #![tactic(auto)]
 
 ghost use Rattle.std.specs.Prelude.{◌≡◌, ◌≤◌, length};
 
-use par_laws::{Test, Verdict};
+use par_laws::{Mapper, Memory, Monoid, Sum, Test, Verdict};
 use par_splitter::{ArraySplitter, Splitter};
+use std::alloc::Global;
 use std::io;
 use std::time::{Duration, Instant};
 
@@ -34,29 +35,33 @@ impl<'a> Test<&'a i64> for AtLeast {
     }
 }
 
-/// What an item adds to a sum.
-trait Amount {
-    fn amount(&self) -> i64;
-}
+/// A number as it is.
+#[derive(Drop)]
+struct Itself;
 
-impl<'a> Amount for &'a i64 {
-    fn amount(&self) -> i64 {
-        **self
+impl<'a> Mapper<&'a i64, i64> for Itself {
+    ghost mapped = { λ _ x. x };
+
+    fn map(&self, _alloc: Global, item: &&'a i64) -> Result<i64, Memory> {
+        Ok(**item)
     }
 }
 
-/// The sum of the items that pass.
-fn sum_passing<S: Splitter, P: Test<S::Item>>(mut input: S, test: &P) -> i64
-where
-    S::Item: Amount,
-{
-    let mut sum: i64 = 0;
+/// The fold of what the items that pass become.
+fn fold_passing<S: Splitter, P: Test<S::Item>, M: Monoid, F: Mapper<S::Item, M::T>>(
+    alloc: Global,
+    mut input: S,
+    test: &P,
+    how: &M,
+    of: &F,
+) -> Result<M::T, Memory> {
+    let mut folded = how.zero(alloc)?;
     while let Some(item) = input.next() {
         if let Verdict::Pass = test.test(&item) {
-            sum = sum.wrapping_add(item.amount());
+            folded = how.op(folded, of.map(alloc, &item)?)?;
         }
     }
-    sum
+    Ok(folded)
 }
 
 /// The same sum by a loop over the slice.
@@ -86,7 +91,11 @@ fn main(rt: HostRuntime) -> io::Result<()> {
         let least = (round % 2) as i64;
         let start = Instant::now(&rt)?;
         if items.len() <= ITEMS {
-            sums.0 = sum_passing(ArraySplitter::new(items.as_slice()), &AtLeast { least });
+            let input = ArraySplitter::new(items.as_slice());
+            match fold_passing(rt.alloc(), input, &AtLeast { least }, &Sum, &Itself) {
+                Ok(sum) => sums.0 = sum,
+                Err(Memory) => return Err(io::Error::from(io::ErrorKind::OutOfMemory)),
+            }
         }
         best_splitter = best_splitter.min(start.elapsed(&rt)?);
         let start = Instant::now(&rt)?;
