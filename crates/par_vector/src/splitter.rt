@@ -1,6 +1,7 @@
 //! A splitter over a vector.
 ghost use Rattle.std.specs.Prelude.{◌≡◌, ℕ, ◌+◌, ◌-◌, ◌<◌, ◌≤◌, ◌^◌, List, length, take, drop, true};
 ghost use Rattle.std.proofs.Common.{rules};
+ghost use Rattle.par_vector.specs.Runs.{IsRun};
 
 use crate::vector::RadixVector;
 use par_splitter::{Cut, Precise, Splitter};
@@ -32,6 +33,18 @@ impl<'a, T: Drop> VectorSplitter<'a, T> {
             end: vector.len(),
         }
     }
+
+    // The items from this place to the end of their leaf.
+    fn here(&self) -> &'a [T]
+        requires { self.now.at < length self.now.vector.now }
+        ensures { IsRun self.now.vector.now self.now.at result.now }
+    {
+        if self.leaf.is_empty() {
+            self.vector.run(self.at)
+        } else {
+            self.leaf
+        }
+    }
 }
 
 impl<'a, T: Drop> Splitter for VectorSplitter<'a, T> {
@@ -55,10 +68,7 @@ impl<'a, T: Drop> Splitter for VectorSplitter<'a, T> {
         if self.at == self.end {
             return None;
         }
-        if self.leaf.is_empty() {
-            self.leaf = self.vector.run(self.at);
-        }
-        let (first, rest) = self.leaf.split_first()?;
+        let (first, rest) = self.here().split_first()?;
         self.leaf = rest;
         self.at += 1;
         Some(first)
