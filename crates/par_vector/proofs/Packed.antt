@@ -120,10 +120,10 @@ module _ {N T : Type 0} (items : N → List T) (room : ℕ) (some : 0 < room) wh
         let back : flat_map items (at.kid ∷ at.after) ≡ items x ++ later = flat_map-cons items at.kid at.after ∙ ap (λ v. items v ++ later) (sym is) in
         let all : flat_map items kids ≡ front ++ (items x ++ later) = ap (flat_map items) at.parts ∙ (flat_map-append items at.before (at.kid ∷ at.after) ∙ ap (λ v. front ++ v) back) in
         let from : drop i (flat_map items kids) ≡ part ++ later =
-            ap (drop i) all
-            ∙ (ap (λ v. drop v (front ++ (items x ++ later))) (sym whole ∙ ap (λ v. v + i % m) (sym at.full))
-            ∙ (drop-append-add front (items x ++ later) (i % m)
-            ∙ drop-append-le (i % m) (items x) later (subst (λ v. i % m ≤ length (items v)) (sym is) (omega (arith, at.has))))) in
+        ap (drop i) all
+        ∙ (ap (λ v. drop v (front ++ (items x ++ later))) (sym whole ∙ ap (λ v. v + i % m) (sym at.full))
+        ∙ (drop-append-add front (items x ++ later) (i % m)
+        ∙ drop-append-le (i % m) (items x) later (subst (λ v. i % m ≤ length (items v)) (sym is) (omega (arith, at.has))))) in
         let short : length run ≤ length part = omega (arith, ap length u.same ∙ length-take (length run) part) in
         record { some = u.some; same = u.same ∙ (sym (take-append-le (length run) part later short) ∙ ap (take (length run)) (sym from)) }
 

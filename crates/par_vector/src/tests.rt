@@ -10,33 +10,67 @@ use std::test::Fail;
 fn counted(alloc: Global, n: u32) -> Result<RadixVector<u32>, Memory> {
     let mut vector = RadixVector::new(alloc);
     for next in 0..n {
-        if vector.len() < 2000 {
+        if vector.len() < 40_000 {
             vector.push(next)?;
         }
     }
     Ok(vector)
 }
 
-// Whether the splitter gives just the numbers lo..hi.
-fn gives<S: Splitter>(mut input: S, lo: u32, hi: u32) -> bool
-where
-    S::Item: AsNumber,
-{
-    let mut next = lo;
-    let mut same = input.span() == (lo, hi);
+#[test]
+fn gets_what_was_pushed(rt: HostRuntime) -> Result<(), Fail> {
+    for n in [0, 1, 31, 32, 33, 1023, 1024, 1025, 32_768, 33_000] {
+        let vector = counted(rt.alloc(), n)?;
+        assert_eq!(rt; vector.len(), n);
+        for i in [0, 31, 32, 1023, 1024, 32_767, 32_768, 32_999] {
+            let wanted = if i < n { Some(i) } else { None };
+            assert_eq!(rt; vector.get(i).copied(), wanted, "{i} of {n}");
+        }
+        assert!(rt; vector.get(n).is_none());
+    }
+    Ok(())
+}
+
+#[test]
+fn chunks_are_joined(rt: HostRuntime) -> Result<(), Fail> {
+    let alloc = rt.alloc();
+    let mut chunks = LinkedList::new(alloc);
+    for lo in [0u32, 2, 2, 5] {
+        let hi = if lo == 5 { 6 } else { lo + 3 };
+        chunks.push_back((lo..hi).collect(alloc)?)?;
+    }
+    let vector = RadixVector::from_chunks(alloc, chunks)?;
+    let mut input = vector.splitter();
+    let mut all = Vec::new(alloc);
     while let Some(item) = input.next() {
-        same = same && item.number() == next;
-        next = next.saturating_add(1);
+        all.push(*item)?;
     }
-    same && next == hi
+    assert_eq!(rt;
+        all.as_slice(),
+        [0u32, 1, 2, 2, 3, 4, 2, 3, 4, 5].as_slice()
+    );
+    Ok(())
 }
 
-trait AsNumber {
-    fn number(&self) -> u32;
-}
-
-impl<'a> AsNumber for &'a u32 {
-    fn number(&self) -> u32 {
-        **self
+#[test]
+fn splits_and_cuts(rt: HostRuntime) -> Result<(), Fail> {
+    let vector = counted(rt.alloc(), 1_100)?;
+    let mut input = vector.splitter();
+    assert_eq!(rt; input.next().copied(), Some(0));
+    assert_eq!(rt; (input.remaining(), input.span()), (1_099, (1, 1_100)));
+    assert_eq!(rt; input.dup().next().copied(), Some(1));
+    let (left, mut right) = input.cut_at(600);
+    assert_eq!(rt; (left.span(), right.span()), ((1, 601), (601, 1_100)));
+    assert_eq!(rt; right.next().copied(), Some(601));
+    match left.split() {
+        Cut::One(_) => assert!(rt; false),
+        Cut::Two(mut a, mut b) => {
+            assert_eq!(rt; (a.span(), b.span()), ((1, 301), (301, 601)));
+            assert_eq!(rt;
+                (a.next().copied(), b.next().copied()),
+                (Some(1), Some(301))
+            );
+        }
     }
+    Ok(())
 }

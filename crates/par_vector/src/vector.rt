@@ -79,7 +79,10 @@ impl<T: Drop> RadixVector<T> {
     }
 
     /// The chunks joined. Linear; its one error is want of memory.
-    pub fn from_chunks(alloc: Global, mut chunks: LinkedList<Vec<T>>) -> Result<RadixVector<T>, Memory>
+    pub fn from_chunks(
+        alloc: Global,
+        mut chunks: LinkedList<Vec<T>>,
+    ) -> Result<RadixVector<T>, Memory>
         requires { length (flat_map (λ c. c.items) chunks) ≤ MAX_ITEMS }
         ensures { IfOk result (λ v. v ≡ flat_map (λ c. c.items) chunks) }
     {
