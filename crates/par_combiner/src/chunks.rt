@@ -28,7 +28,7 @@ impl<T> Model for Chunks<T> {
 
     ghost view = { λ c. items_of c.list };
 
-    ghost invariant = { λ c. (c.count ≡ length (items_of c.list)) × (length c.list ≤ c.count) };
+    ghost invariant = { λ c. (c.count ≡ length (items_of c.list)) × (length c.list ≤ c.count) × (c.count ≤ 4194304) };
 }
 
 impl<T: Drop> Chunks<T> {
@@ -98,7 +98,8 @@ impl<T: Drop> Chunks<T> {
 
     /// The chunks, in order. Some may be empty. Takes no memory.
     pub fn into_list(self) -> LinkedList<Vec<T>>
-        ensures { items_of result ≡ self }
+        ensures items { items_of result ≡ self }
+        ensures bound { length self ≤ 4194304 }
     {
         self.list
     }

@@ -4,6 +4,7 @@
 //! stands for its items: an array, or whatever else a combiner makes.
 //!
 //! - `ArrayCombiner` makes a vector. It keeps its items in `Chunks`, as other combiners over lists do.
+//! - `VectorCombiner` makes a radix vector of them.
 //! - `Faulted` is a combiner of items that may fault: its result is a `Yield`, all of the values or the first fault.
 #![tactic(auto)]
 
@@ -11,11 +12,13 @@ mod array;
 mod chunks;
 mod combiner;
 mod faulted;
+mod vector;
 
 pub use array::ArrayCombiner;
 pub use chunks::Chunks;
 pub use combiner::Combiner;
 pub use faulted::{Faulted, Yield};
+pub use vector::VectorCombiner;
 
 #[cfg(test)]
 mod tests;

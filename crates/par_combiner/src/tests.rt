@@ -1,5 +1,5 @@
 //! What no clause says: that there is a result where there is memory.
-use crate::{ArrayCombiner, Chunks, Combiner, Faulted, Yield};
+use crate::{ArrayCombiner, Chunks, Combiner, Faulted, VectorCombiner, Yield};
 use par_laws::{Made, Memory};
 use std::alloc::Global;
 use std::test::Fail;
@@ -55,6 +55,22 @@ fn arrays(rt: HostRuntime) -> Result<(), Fail> {
         let _sent = sent(ArrayCombiner::<i64>::empty(alloc)?);
         let _sent = sent(Faulted::<ArrayCombiner<i64>>::empty(alloc)?);
         assert_eq!(rt; made.ok_or("short")?.as_slice(), all);
+    }
+    Ok(())
+}
+
+#[test]
+fn vectors(rt: HostRuntime) -> Result<(), Fail> {
+    let alloc = rt.alloc();
+    let first = Vec::from_array(alloc, [1i64])?;
+    let second = Vec::from_array(alloc, [2i64, 3])?;
+    let third = Vec::from_array(alloc, [4i64])?;
+    let made = made_of::<VectorCombiner<i64>>(alloc, first, second, third)?;
+    let vector = made.ok_or("short")?;
+    let _sent = sent(VectorCombiner::<i64>::empty(alloc)?);
+    assert_eq!(rt; vector.len(), 4);
+    for i in 0..4u32 {
+        assert_eq!(rt; vector.get(i).copied(), Some(i as i64 + 1));
     }
     Ok(())
 }
