@@ -1,0 +1,3 @@
+pub mod Packed
+pub mod Pushes
+pub mod Runs
