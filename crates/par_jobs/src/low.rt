@@ -1,9 +1,11 @@
 //! The leaf of a low-flag job.
 ghost use Rattle.std.specs.Prelude.{◌≡◌, ℕ, ◌+◌, ◌-◌, ◌<◌, ◌≤◌, length, map, true, IfOk};
+ghost use Rattle.par_laws.specs.Marks.{IsMarked};
 ghost use Rattle.par_signal.specs.Values.{IsLow};
 ghost use Rattle.par_task.specs.Marking.{low_flag, marks_of};
+ghost use Rattle.par_task.specs.Leaves.{IsReadAgain};
 ghost use Rattle.par_task.specs.Seats.{IsLater, IsLeafOf};
-ghost use Rattle.par_jobs.specs.Steps.{IsLowRead, IsPast};
+ghost use Rattle.par_jobs.specs.Steps.{IsLowRead, IsLowered};
 ghost use Rattle.par_jobs.specs.Passing.{IsPassed, IsLeft, IsGiven, is_whole, left_by};
 
 use crate::builder::Builder;
@@ -60,18 +62,54 @@ fn leaf_did<K: Drop, I: Drop>(flag: u32, at: u32, kept: K, ended: Ended<I>) -> P
     }
 }
 
-// Whether a leaf that began at `lo` breaks off before item `at`: the low flag is read after every 512 items, while items
-// are left.
-fn is_past(signals: &Signals, seat: &mut SignalSeat, lo: u32, at: u32, left: u32) -> bool
+// The low flag.
+#[tactic(auto, using(crate::proofs::Fronts::low_read))]
+fn read_low(signals: &Signals, seat: &mut SignalSeat) -> u32
+    requires { seat.old.of ≡ signals.now }
+    ensures names { IsLow signals.now.marks result }
+    ensures read { IsLowRead seat.old seat.new }
+    ensures seen { result ≡ seat.new.low }
+{
+    signals.low(seat)
+}
+
+// Tells that item `at` is marked.
+#[tactic(auto, using(crate::proofs::Fronts::lower_later))]
+fn tell_mark(signals: &Signals, seat: &mut SignalSeat, at: u32)
+    requires seat { seat.old.of ≡ signals.now }
+    requires marked { IsMarked signals.now.marks at }
+    ensures later { IsLater seat.old seat.new }
+    ensures told { seat.new.low ≤ at }
+{
+    signals.lower(seat, at);
+}
+
+// Whether another leaf lowered the flag to item `at` or one before it, where `at` is before `hi`. It stays out of line, so
+// that the loop over the items keeps to one test of its counter.
+#[inline(never)]
+fn is_lowered(signals: &Signals, seat: &mut SignalSeat, at: u32, hi: u32) -> bool
+    requires { seat.old.of ≡ signals.now }
+    ensures read { IsLowRead seat.old seat.new }
+    ensures past { result ≡ true → IsLowered signals.now.marks seat.old at hi }
+{
+    if hi <= at {
+        return false;
+    }
+    read_low(signals, seat) <= at
+}
+
+// Whether a leaf over `lo..hi` breaks off before item `at`: the low flag is read after every 512 items, while items are
+// left.
+fn is_past(signals: &Signals, seat: &mut SignalSeat, lo: u32, at: u32, hi: u32) -> bool
     requires seat { seat.old.of ≡ signals.now }
     requires on { lo < at }
     ensures read { IsLowRead seat.old seat.new }
-    ensures past { result ≡ true → IsPast signals.now.marks seat.old lo at left }
+    ensures past { result ≡ true → IsReadAgain (at - lo) × IsLowered signals.now.marks seat.old at hi }
 {
-    if (at - lo) % 512 != 0 || left == 0 {
+    if (at - lo) % 512 != 0 {
         return false;
     }
-    signals.low(seat) <= at
+    is_lowered(signals, seat, at, hi)
 }
 
 // Passes the items of a leaf whose flag is past its first item: up to the first marked one, which it tells by the low
@@ -95,18 +133,18 @@ fn pass_items<S: Splitter, P: Test<S::Item>, B: Builder<S::Item>>(
     ensures passed { IfOk result (λ r. (r.flag ≡ flag) × IsPassed (B.built builder.now) (S.items marked.now.split) (marks_of low_flag (map (P.verdict marked.now.inner) (S.items marked.now.split))) (S.lo input.old) (S.lo input.old + length (S.items input.old)) r.at (B.Built.shown r.kept) (is_whole r.ended)) }
     ensures left { IfOk result (λ r. IsLeft (S.items marked.now.split) r.at (S.lo input.old + length (S.items input.old)) (left_by S.Item.shown r.ended (S.items input.new))) }
 {
-    let (lo, _) = input.span();
+    let (lo, hi) = input.span();
     let mut at = lo;
     let mut kept = builder.start(alloc)?;
     while let Some(item) = input.next() {
         let halt = is_halt(probe.test(&item));
         if halt {
-            signals.lower(seat, at);
+            tell_mark(signals, seat, at);
             return Ok(leaf_did(flag, at, kept, Ended::Halted(item)));
         }
         kept = builder.add(alloc, kept, &item)?;
         at += 1;
-        let past = is_past(signals, seat, lo, at, input.remaining());
+        let past = is_past(signals, seat, lo, at, hi);
         if past {
             return Ok(leaf_did(flag, at, kept, Ended::Past));
         }
@@ -135,7 +173,7 @@ pub(crate) fn pass_low<S: Splitter, P: Test<S::Item>, B: Builder<S::Item>>(
     ensures left { IfOk result (λ r. IsLeft (S.items marked.now.split) r.at (S.lo input.old + length (S.items input.old)) (left_by S.Item.shown r.ended (S.items input.new))) }
 {
     let (lo, _) = input.span();
-    let flag = signals.low(seat);
+    let flag = read_low(signals, seat);
     if flag <= lo {
         let none = builder.start(alloc)?;
         return Ok(leaf_did(flag, lo, none, Ended::Past));

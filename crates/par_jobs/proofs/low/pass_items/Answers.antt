@@ -31,11 +31,11 @@ loop-item-init g c =
       kept = subst (λ w. g.B.Builder.built c.args.builder.now w (g.B.Built.Shown.shown c.in_ok-kept.kept)) (between_none source (g.S.Splitter.lo c.args.input.now)) c.in_ok-kept.ensures;
     })
 
-pub lower-requires-clause-of : goal.lower-requires-clause-of
-lower-requires-clause-of g c = c.loop-item.invariant.seat.of ∙ c.requires.given.seat
+pub tell_mark-requires-clause-seat : goal.tell_mark-requires-clause-seat
+tell_mark-requires-clause-seat g c = c.loop-item.invariant.seat.of ∙ c.requires.given.seat
 
-pub lower-requires-clause-marked : goal.lower-requires-clause-marked
-lower-requires-clause-marked g c =
+pub tell_mark-requires-clause-marked : goal.tell_mark-requires-clause-marked
+tell_mark-requires-clause-marked g c =
     let source = g.S.Splitter.items c.args.marked.now.split in
     let verdicts = map (g.P.Test.verdict c.args.marked.now.inner) source in
     let marks = marks_of low_flag verdicts in
@@ -46,7 +46,7 @@ lower-requires-clause-marked g c =
     subst (λ m. IsMarked m c.loop-item.at) (sym c.requires.given.marks) (mark ∙ c.if-halt.true)
 
 pub returns-then-halt-clause-seat : goal.returns-then-halt-clause-seat
-returns-then-halt-clause-seat g c = later_join _ _ _ (low_read_later _ _ c.loop-item.invariant.seat) (lower_later _ _ _ _ c.lower.ensures.seen.2 c.lower.ensures.falls)
+returns-then-halt-clause-seat g c = later_join _ _ _ (low_read_later _ _ c.loop-item.invariant.seat) c.tell_mark.ensures.later
 
 pub returns-then-halt-clause-leaf : goal.returns-then-halt-clause-leaf
 returns-then-halt-clause-leaf g c =
@@ -59,7 +59,7 @@ returns-then-halt-clause-leaf g c =
     let mark = mark_at (g.P.Test.verdict c.args.probe.now.inner) source _ c.requires.given.test low_flag c.loop-item.at _ _ scan.span ∙ (ap halts (sym v) ∙ sym c.is_halt-halt.ensures) in
     let made : c.loop-item.at + 1 ≡ g.S.Splitter.lo c.args.input.now + (c.test.new.self.made - c.args.probe.now.made) = omega (arith, i.made, i.lo_is, c.test.ensures.made, scan.from) in
     let before : c.loop-item.at < g.S.Splitter.lo c.args.input.now + length (g.S.Splitter.items c.args.input.now) = omega (arith, scan.ends) in
-    low_finds _ _ _ _ _ _ i.flag_is i.flag_seen _ c.loop-item.at (rw i.lo_is at i.some) made scan.from before scan.clear (mark ∙ c.if-halt.true) c.lower.ensures.bound
+    low_finds _ _ _ _ _ _ i.flag_is i.flag_seen _ c.loop-item.at (rw i.lo_is at i.some) made scan.from before scan.clear (mark ∙ c.if-halt.true) c.tell_mark.ensures.told
 
 pub returns-then-halt-clause-passed : goal.returns-then-halt-clause-passed
 returns-then-halt-clause-passed g c =
@@ -111,12 +111,12 @@ returns-then-past-clause-leaf g c =
     let before : c.loop-item.at < g.S.Splitter.lo c.args.input.now + length (g.S.Splitter.items c.args.input.now) = omega (arith, scan.ends) in
     let next = scan_next source _ _ _ c.loop-item.at _ _ scan (mark ∙ c.if-halt.false) in
     let p = c.is_past-past.ensures.past c.if-past.true in
-    let stops : stop marks ≤ c.loop-item.at + 1 = omega (arith, p.past, ap stop c.requires.given.marks) in
-    let left : c.loop-item.at + 1 < g.S.Splitter.lo c.args.input.now + length (g.S.Splitter.items c.args.input.now) = omega (arith, next.ends, c.remaining.ensures, p.more) in
+    let stops : stop marks ≤ c.loop-item.at + 1 = omega (arith, p.1.past, ap stop c.requires.given.marks) in
+    let left : c.loop-item.at + 1 < g.S.Splitter.lo c.args.input.now + length (g.S.Splitter.items c.args.input.now) = omega (arith, p.1.more, c.span-lo.ensures.hi) in
     let count : c.loop-item.at + 1 - c.span-lo.result.0 ≡ c.test.new.self.made - c.args.probe.now.made = omega (arith, made, i.lo_is, scan.from) in
     let marks_are : length c.args.seat.now.of.marks ≡ length marks = ap (λ (f : Flags). length f.marks) c.requires.given.seat ∙ ap length c.requires.given.marks in
-    low_breaks _ _ _ _ _ _ i.flag_is i.flag_seen _ (rw i.lo_is at i.some) (subst IsReadAgain count p.again) (omega (arith, made, before)) (subst (λ k. Clear marks (g.S.Splitter.lo c.args.input.now) k) made next.clear) (omega (arith, stops, made))
-    (λ a f. omega (arith, p.by_another (i.seat.alone ∙ a), i.seat.still a, f.low, marks_are, left, within))
+    low_breaks _ _ _ _ _ _ i.flag_is i.flag_seen _ (rw i.lo_is at i.some) (subst IsReadAgain count p.0) (omega (arith, made, before)) (subst (λ k. Clear marks (g.S.Splitter.lo c.args.input.now) k) made next.clear) (omega (arith, stops, made))
+    (λ a f. omega (arith, p.1.by_another (i.seat.alone ∙ a), i.seat.still a, f.low, marks_are, left, within))
 
 pub returns-then-past-clause-passed : goal.returns-then-past-clause-passed
 returns-then-past-clause-passed g c =
@@ -133,8 +133,8 @@ returns-then-past-clause-passed g c =
     let before : c.loop-item.at < g.S.Splitter.lo c.args.input.now + length (g.S.Splitter.items c.args.input.now) = omega (arith, scan.ends) in
     let next = scan_next source _ _ _ c.loop-item.at _ _ scan (mark ∙ c.if-halt.false) in
     let p = c.is_past-past.ensures.past c.if-past.true in
-    let stops : stop marks ≤ c.loop-item.at + 1 = omega (arith, p.past, ap stop c.requires.given.marks) in
-    let left : c.loop-item.at + 1 < g.S.Splitter.lo c.args.input.now + length (g.S.Splitter.items c.args.input.now) = omega (arith, next.ends, c.remaining.ensures, p.more) in
+    let stops : stop marks ≤ c.loop-item.at + 1 = omega (arith, p.1.past, ap stop c.requires.given.marks) in
+    let left : c.loop-item.at + 1 < g.S.Splitter.lo c.args.input.now + length (g.S.Splitter.items c.args.input.now) = omega (arith, p.1.more, c.span-lo.ensures.hi) in
     rw c.leaf_did-then-past.ensures (
       refl,
       record {
