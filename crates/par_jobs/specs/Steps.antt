@@ -64,12 +64,8 @@ pub record IsGoingOn (old new : Seen) : Type 0 where
   pub set : IsSet old.abort → IsSet new.abort
   pub alone : new.alone ≡ old.alone
 
--- a read of the abort flag before item at that is made only while items up to hi are left
-abbrev pub IsAbortReadMeanwhile : List Bool → Seen → Seen → ℕ → ℕ → Option ℕ → Type 0
-IsAbortReadMeanwhile marks old new at hi None = IsGoingOn old new
-IsAbortReadMeanwhile marks old new at hi (Some i) = (at < hi) × IsDecided marks old new i
-
--- a read of the abort flag before item at, which is made only after every 512 items while items are left
-abbrev pub IsAbortReadAgain : List Bool → Seen → Seen → ℕ → ℕ → ℕ → Option ℕ → Type 0
-IsAbortReadAgain marks old new lo at hi None = IsGoingOn old new
-IsAbortReadAgain marks old new lo at hi (Some i) = IsReadAgain (at - lo) × (at < hi) × IsDecided marks old new i
+-- the abort flag was read while items up to hi were left, and is set
+pub record IsAborted (old new : Seen) (at hi : ℕ) : Type 0 where
+  pub more : at < hi
+  pub set : IsSet new.abort
+  pub by_another : old.alone ≡ true → ¬ IsSet old.abort → ⊥
