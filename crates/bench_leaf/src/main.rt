@@ -1,8 +1,10 @@
-//! What a leaf costs that may end early, beside a plain loop over the same items with the same test.
+//! What a leaf costs that may end early, beside plain loops over the same items with the same test.
 //!
 //! One leaf of a low-flag job and one of an abort job go over 4,194,304 items of which none is marked, over the same
-//! items with a mark at a quarter of them, and over that quarter alone. The plain loop tests all items. What each found
-//! goes to standard output. The best times, and the leaves' in percent of the loop's, go to standard error.
+//! items with a mark at a quarter of them, and over that quarter alone. One plain loop counts the items that fail: it
+//! tests all, and a compiler may test several at once. The other ends at the first item that passes, as the leaves do.
+//! What each found goes to standard output. The best times, and the leaves' in percent of the counting loop's, go to
+//! standard error.
 #![tactic(auto)]
 
 ghost use Rattle.std.specs.Prelude.{◌≡◌, ◌≤◌, length};
@@ -94,6 +96,18 @@ fn count_failing<S: Splitter, P: Test<S::Item>>(mut input: S, test: &P) -> u32 {
     count
 }
 
+/// The index of the first item that passes, or the number of items, by a loop.
+fn first_passing<S: Splitter, P: Test<S::Item>>(mut input: S, test: &P) -> u32 {
+    let mut count: u32 = 0;
+    while let Some(item) = input.next() {
+        if let Verdict::Pass = test.test(&item) {
+            return count;
+        }
+        count = count.wrapping_add(1);
+    }
+    count
+}
+
 /// What a time is in percent of another.
 fn percent(time: Duration, of: Duration) -> u128 {
     let whole = of.as_micros();
@@ -103,7 +117,7 @@ fn percent(time: Duration, of: Duration) -> u128 {
     time.as_micros().wrapping_mul(100) / whole
 }
 
-/// Runs both leaves and the loop over a source in turn, many times, and tells what they found and their best times.
+/// Runs both leaves and both loops over a source in turn, many times, and tells what they found and their best times.
 fn measure<S: Splitter, P: Test<S::Item>>(
     rt: &HostRuntime,
     name: &str,
@@ -116,7 +130,8 @@ fn measure<S: Splitter, P: Test<S::Item>>(
     let mut low = Duration::MAX;
     let mut abort = Duration::MAX;
     let mut plain = Duration::MAX;
-    let mut found = (0, 0, 0);
+    let mut ending = Duration::MAX;
+    let mut found = (0, 0, 0, 0);
     for round in 0..ROUNDS {
         let test = tests[round % 2];
         let start = Instant::now(rt)?;
@@ -128,15 +143,19 @@ fn measure<S: Splitter, P: Test<S::Item>>(
         let start = Instant::now(rt)?;
         found.2 = count_failing(source.dup(), test);
         plain = plain.min(start.elapsed(rt)?);
+        let start = Instant::now(rt)?;
+        found.3 = first_passing(source.dup(), test);
+        ending = ending.min(start.elapsed(rt)?);
     }
-    println!(rt; "{name}: {} {} {}", found.0, found.1, found.2)?;
+    println!(rt; "{name}: {} {} {} {}", found.0, found.1, found.2, found.3)?;
     eprintln!(rt;
-        "{name}: low flag {} us ({}%), abort {} us ({}%), plain loop {} us",
+        "{name}: low flag {} us ({}%), abort {} us ({}%), counting loop {} us, ending loop {} us",
         low.as_micros(),
         percent(low, plain),
         abort.as_micros(),
         percent(abort, plain),
-        plain.as_micros()
+        plain.as_micros(),
+        ending.as_micros()
     )
 }
 
