@@ -1,8 +1,9 @@
 //! A job that ends at any marked item.
 ghost use Rattle.std.specs.Prelude.{◌≡◌, ℕ, ◌≤◌, ◌<◌, ◌^◌, length, map, IfOk};
 ghost use Rattle.par_jobs.specs.Merges.{not_found_by};
+ghost use Rattle.par_jobs.specs.declared.search.Sought.TheVariants.{Found};
 
-use crate::abort::{decided, decided_again};
+use crate::abort::{decided, decider, is_decided};
 use crate::fault::{is_pass, note_fault};
 use par_laws::{FaultAt, Memory, Probe, Shown, Test};
 use par_signal::{SignalSeat, Signals};
@@ -31,6 +32,16 @@ fn not_found(fault: Option<FaultAt>) -> Sought
     match fault {
         None => Sought::Nowhere,
         Some(fault) => Sought::Fell(fault),
+    }
+}
+
+// What a leaf did that ended at an item that passes, or after another leaf met one.
+fn found(i: u32, flag: u32) -> Done<Sought>
+    ensures { result ≡ record { part = Found i; flag = flag } }
+{
+    Done {
+        part: Sought::Found(i),
+        flag,
     }
 }
 
@@ -71,11 +82,10 @@ impl<'a, S: Splitter, P: Test<S::Item>> Job for SearchJob<'a, S, P> {
         seat: &mut SignalSeat,
     ) -> Result<Done<Sought>, Memory> {
         if let Some(i) = decided(signals, seat)? {
-            let part = Sought::Found(i);
-            return Ok(Done { part, flag: 0 });
+            return Ok(found(i, 0));
         }
         let flag = self.marked.count();
-        let (lo, _) = input.span();
+        let (lo, hi) = input.span();
         let mut at = lo;
         let mut fault: Option<FaultAt> = None;
         while let Some(item) = input.next() {
@@ -83,18 +93,14 @@ impl<'a, S: Splitter, P: Test<S::Item>> Job for SearchJob<'a, S, P> {
             let pass = is_pass(verdict);
             if pass {
                 signals.abort(seat, at);
-                return Ok(Done {
-                    part: Sought::Found(at),
-                    flag,
-                });
+                return Ok(found(at, flag));
             }
             fault = note_fault(fault, verdict, at);
             at += 1;
-            if let Some(i) = decided_again(signals, seat, lo, at, input.remaining())? {
-                return Ok(Done {
-                    part: Sought::Found(i),
-                    flag,
-                });
+            let ended = is_decided(signals, seat, lo, at, hi);
+            if ended {
+                let i = decider(signals, seat)?;
+                return Ok(found(i, flag));
             }
         }
         Ok(Done {

@@ -1,14 +1,19 @@
 //! What no clause says: that runs succeed where there is memory, and what their leaves did.
-ghost use Rattle.std.specs.Prelude.{◌≡◌, ◌≤◌, length, IfSome};
+ghost use Rattle.std.specs.Prelude.{◌≡◌, ◌≤◌, length, map, true, Some, IfSome};
+ghost use Rattle.par_signal.specs.Seen.{Seen};
+ghost use Rattle.par_laws.specs.Marks.{IsMarked};
+ghost use Rattle.par_task.specs.Marking.{low_flag, marks_of};
 
+use crate::fault::is_halt;
 use crate::{
     Counting, Folding, Front, FrontJob, GatherJob, LastJob, Listing, SearchJob, SiftJob, Sifted,
-    Sought,
+    Sought, SpanJob, Spanned,
 };
 use par_edge::OpenGate;
-use par_laws::{FaultAt, Mapper, Memory, Never, Sum, Test, Verdict};
-use par_splitter::{RangeSplitter, Splitter, range_count};
-use par_task::{Audit, Leaf, Marked, run_alone};
+use par_laws::{FaultAt, Mapper, Memory, Never, Probe, Sum, Test, Verdict};
+use par_signal::{SignalSeat, Signals};
+use par_splitter::{Cut, Precise, RangeSplitter, Splitter, range_count};
+use par_task::{Audit, Leaf, Marked, Place, run_alone, run_leaf};
 use std::alloc::Global;
 use std::marker::PhantomData;
 use std::test::Fail;
@@ -83,6 +88,26 @@ fn front(
     };
     let marks = Marked::over(&split, test, true);
     run_alone(alloc, &job, test, &marks, source, level, &OpenGate)
+}
+
+fn span(
+    alloc: Global,
+    source: RangeSplitter,
+    test: &Rule,
+) -> Result<(Spanned<Vec<i64>>, Audit), Memory>
+    requires place { ⟦<RangeSplitter as Splitter>⟧.lo source ≡ 0 }
+    requires few { length (⟦<RangeSplitter as Splitter>⟧.items source) ≤ 1000 }
+{
+    let split = source.dup();
+    let job = SpanJob {
+        marked: Marked::over(&split, test, true),
+        builder: &Listing {
+            of: &Same,
+            out: PhantomData,
+        },
+    };
+    let marks = Marked::over(&split, test, true);
+    run_alone(alloc, &job, test, &marks, source, 4, &OpenGate)
 }
 
 fn last(alloc: Global, source: RangeSplitter, test: &Rule) -> Result<u32, Memory>
@@ -288,5 +313,171 @@ fn folds_a_range(rt: HostRuntime) -> Result<(), Fail> {
     let (sum, audit) = run_alone(rt.alloc(), &job, &Never, &marks, source, 4, &OpenGate)?;
     assert_eq!(rt; sum, 10);
     assert_eq!(rt; audit.leaves().len(), 3);
+    Ok(())
+}
+
+#[test]
+fn spans(rt: HostRuntime) -> Result<(), Fail> {
+    // The range, the rule, and how many items stand on each side.
+    let cases: [(i64, i64, i64, i64, usize, usize); 6] = [
+        (0, 8, 3, -1, 3, 5),
+        (0, 8, 9, -1, 8, 0),
+        (0, 8, 9, 1, 1, 7),
+        (0, 8, 0, -1, 0, 8),
+        (0, 8, 7, -1, 7, 1),
+        (4, 4, 9, -1, 0, 0),
+    ];
+    for (a, b, least, faulty, before, after) in cases {
+        let source = from_to(a, b).ok_or("few")?;
+        let (part, _) = span(rt.alloc(), source, &Rule { least, faulty })?;
+        assert_eq!(rt; (part.prefix.len(), part.suffix.len()), (before, after));
+        assert!(rt; part.end as usize == before && part.suffix.first().is_none_or(|x| *x == a + before as i64));
+    }
+    Ok(())
+}
+
+/// A splitter whose first item is taken only after its own seat has lowered the flag.
+#[derive(Drop)]
+struct Lowering<'a, S: Splitter> {
+    inner: S,
+    signals: &'a Signals,
+    seat: Option<SignalSeat>,
+    mark: u32,
+    ghost fits: { (s : Seen) → seat ≡ Some s → s.of ≡ signals.now },
+    ghost marked: { IsMarked signals.now.marks mark },
+}
+
+impl<'a, S: Splitter> Splitter for Lowering<'a, S> {
+    type Item = S::Item;
+
+    ghost items = { λ s. S.items s.inner };
+
+    ghost lo = { λ s. S.lo s.inner };
+
+    ghost halves = { S.halves };
+
+    fn remaining(&self) -> u32 {
+        self.inner.remaining()
+    }
+
+    fn span(&self) -> (u32, u32) {
+        self.inner.span()
+    }
+
+    fn next(&mut self) -> Option<S::Item> {
+        if let Some(mut seat) = self.seat.take() {
+            self.signals.lower(&mut seat, self.mark);
+        }
+        self.inner.next()
+    }
+
+    fn split(self) -> Cut<Self> {
+        let Lowering {
+            inner,
+            signals,
+            seat,
+            mark,
+        } = self;
+        match inner.split() {
+            Cut::One(inner) => Cut::One(Lowering {
+                inner,
+                signals,
+                seat,
+                mark,
+            }),
+            Cut::Two(left, right) => Cut::Two(
+                Lowering {
+                    inner: left,
+                    signals,
+                    seat,
+                    mark,
+                },
+                Lowering {
+                    inner: right,
+                    signals,
+                    seat: None,
+                    mark,
+                },
+            ),
+        }
+    }
+
+    fn dup(&self) -> Self {
+        Lowering {
+            inner: self.inner.dup(),
+            signals: self.signals,
+            seat: None,
+            mark: self.mark,
+        }
+    }
+}
+
+// Whether the item at an index is marked.
+fn is_marked_at<S: Precise, P: Test<S::Item>>(source: &S, test: &P, at: u32) -> bool
+    ensures { result ≡ true → IsMarked (marks_of low_flag (map (P.verdict test.now) (S.items source.now))) at }
+{
+    let (_, mut rest) = source.dup().cut_at(at);
+    match rest.next() {
+        Some(item) => is_halt(test.test(&item)),
+        None => false,
+    }
+}
+
+// Runs one leaf of a low-flag job over the items from `lo` on, during whose first item another seat lowers the flag to
+// `mark`.
+fn leaf_that_is_overtaken<S: Precise, P: Test<S::Item>>(
+    alloc: Global,
+    source: &S,
+    test: &P,
+    lo: u32,
+    mark: u32,
+) -> Result<Option<Leaf>, Memory>
+    requires place { S.lo source.now ≡ 0 }
+    requires few { length (S.items source.now) ≤ 4194304 }
+{
+    if !is_marked_at(source, test, mark) {
+        return Ok(None);
+    }
+    let marks = Marked::over(source, test, true);
+    let (signals, mut seat) = Signals::open(alloc, &marks, source.remaining())?;
+    let other = signals.split_seat(alloc, &mut seat)?;
+    let whole = Lowering {
+        inner: source.dup(),
+        signals: &signals,
+        seat: None,
+        mark,
+    };
+    let (_, rest) = source.dup().cut_at(lo);
+    let input = Lowering {
+        inner: rest,
+        signals: &signals,
+        seat: Some(other),
+        mark,
+    };
+    let job = FrontJob {
+        marked: Marked::over(&whole, test, true),
+        builder: &Counting,
+    };
+    let place = Place {
+        node: 3,
+        seat: 0,
+        turn: 0,
+    };
+    let mut probe = Probe::new(test);
+    let (_, leaf) = run_leaf(
+        alloc, &job, input, &mut probe, &signals, &mut seat, place, &OpenGate,
+    )?;
+    Ok(Some(leaf))
+}
+
+#[test]
+fn a_leaf_breaks_off_where_another_seat_lowered_the_flag(rt: HostRuntime) -> Result<(), Fail> {
+    let source = RangeSplitter::new(0, 3000, 1);
+    let rule = Rule {
+        least: 3000,
+        faulty: 100,
+    };
+    let leaf = leaf_that_is_overtaken(rt.alloc(), &source, &rule, 1000, 100)?.ok_or("marked")?;
+    assert_eq!(rt; (leaf.lo, leaf.hi, leaf.flag, leaf.tested), (1000, 3000, 3000, 512));
     Ok(())
 }

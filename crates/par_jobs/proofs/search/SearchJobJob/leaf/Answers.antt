@@ -18,11 +18,11 @@ returns-in-Some-clause-leaf g c =
     let d = rw c.in-Some.is at c.in_ok-i.ensures.read in
     let m = subst (λ w. IsMarked w c.in-Some.i) c.requires.marks d.marked in
     let z : c.args.probe.now.made - c.args.probe.now.made ≡ 0 = omega arith in
-    rw z (abort_skips marks _ _ _ _ _ size (omega (arith, c.requires.part.within)) c.in-Some.i m d.set (λ a f. d.by_another a f.abort))
+    rw (c.found.ensures, z) (abort_skips marks _ _ _ _ _ size (omega (arith, c.requires.part.within)) c.in-Some.i m d.set (λ a f. d.by_another a f.abort))
 
 pub returns-in-Some-clause-good : goal.returns-in-Some-clause-good
 returns-in-Some-clause-good g c =
-    let d = rw c.in-Some.is at c.in_ok-i.ensures.read in subst (λ w. IsMarked w c.in-Some.i) c.requires.marks d.marked
+    let d = rw c.in-Some.is at c.in_ok-i.ensures.read in rw c.found.ensures (subst (λ w. IsMarked w c.in-Some.i) c.requires.marks d.marked)
 
 pub loop-item-init : goal.loop-item-init
 loop-item-init g c =
@@ -76,7 +76,7 @@ returns-then-pass-clause-leaf g c =
     let within : g.S.Splitter.lo c.args.input + length (g.S.Splitter.items c.args.input) ≤ c.count-flag.result = omega (arith, c.requires.part.within, i.flag_is) in
     let made : c.loop-item.at + 1 ≡ g.S.Splitter.lo c.args.input + (c.test-verdict.new.self.made - c.args.probe.now.made) = omega (arith, i.made, i.lo_is, c.test-verdict.ensures.made, scan.from) in
     let before : c.loop-item.at < g.S.Splitter.lo c.args.input + length (g.S.Splitter.items c.args.input) = omega (arith, scan.ends) in
-    abort_finds marks _ _ _ _ _ n_is within _ c.loop-item.at i.unset made scan.from before scan.clear (mark ∙ c.if-pass.true) c.abort.ensures.set
+    rw c.found-then-pass.ensures (abort_finds marks _ _ _ _ _ n_is within _ c.loop-item.at i.unset made scan.from before scan.clear (mark ∙ c.if-pass.true) c.abort.ensures.set)
 
 pub returns-then-pass-clause-good : goal.returns-then-pass-clause-good
 returns-then-pass-clause-good g c =
@@ -88,16 +88,22 @@ returns-then-pass-clause-good g c =
     let scan = rw c.in-Some-next.ensures.first at (rw i.lo_is at i.scan) in
     let v = c.test-verdict.ensures.answer ∙ ap (λ p. g.P.Test.verdict p (g.S.Item.Shown.shown c.in-Some-next.item)) i.inner in
     let mark = mark_at (g.P.Test.verdict c.args.probe.now.inner) source _ c.requires.test abort_flag c.loop-item.at _ _ scan.span ∙ (ap passes (sym v) ∙ sym c.is_pass-pass.ensures) in
-    mark ∙ c.if-pass.true
+    rw c.found-then-pass.ensures (mark ∙ c.if-pass.true)
 
-pub decided_again-requires-clause-seat : goal.decided_again-requires-clause-seat
-decided_again-requires-clause-seat g c = c.loop-item.invariant.seat.of ∙ c.requires.seat
+pub is_decided-ended-requires-clause-seat : goal.is_decided-ended-requires-clause-seat
+is_decided-ended-requires-clause-seat g c = c.loop-item.invariant.seat.of ∙ c.requires.seat
 
-pub returns-in-Some-2-clause-seat : goal.returns-in-Some-2-clause-seat
-returns-in-Some-2-clause-seat g c = later_join _ _ _ (going_later _ _ c.loop-item.invariant.seat) c.decided_again.ensures.later
+pub decider-requires-clause-seat : goal.decider-requires-clause-seat
+decider-requires-clause-seat g c = c.is_decided-ended.ensures.later.of ∙ (c.loop-item.invariant.seat.of ∙ c.requires.seat)
 
-pub returns-in-Some-2-clause-leaf : goal.returns-in-Some-2-clause-leaf
-returns-in-Some-2-clause-leaf g c =
+pub decider-requires-clause-set : goal.decider-requires-clause-set
+decider-requires-clause-set g c = (c.is_decided-ended.ensures.set c.if-ended.true).1.set
+
+pub returns-then-ended-clause-seat : goal.returns-then-ended-clause-seat
+returns-then-ended-clause-seat g c = later_join _ _ _ (later_join _ _ _ (going_later _ _ c.loop-item.invariant.seat) c.is_decided-ended.ensures.later) c.decider.ensures.later
+
+pub returns-then-ended-clause-leaf : goal.returns-then-ended-clause-leaf
+returns-then-ended-clause-leaf g c =
     let source = g.S.Splitter.items c.args.self.now.marked.split in
     let verdicts = map (g.P.Test.verdict c.args.self.now.marked.inner) source in
     let marks = marks_of abort_flag verdicts in
@@ -111,15 +117,15 @@ returns-in-Some-2-clause-leaf g c =
     let made : c.loop-item.at + 1 ≡ g.S.Splitter.lo c.args.input + (c.test-verdict.new.self.made - c.args.probe.now.made) = omega (arith, i.made, i.lo_is, c.test-verdict.ensures.made, scan.from) in
     let before : c.loop-item.at < g.S.Splitter.lo c.args.input + length (g.S.Splitter.items c.args.input) = omega (arith, scan.ends) in
     let next = scan_next source _ _ _ c.loop-item.at _ _ scan (mark ∙ c.if-pass.false) in
-    let d = rw c.in-Some-2.is at c.in_ok-i-2.ensures.read in
-    let m = subst (λ w. IsMarked w c.in-Some-2.i) c.requires.marks d.decided.marked in
+    let d = c.is_decided-ended.ensures.set c.if-ended.true in
+    let m = subst (λ w. IsMarked w c.in_ok-i-2.i) c.requires.marks c.in_ok-i-2.ensures.marked in
     let count : c.loop-item.at + 1 - c.span-lo.result.0 ≡ c.test-verdict.new.self.made - c.args.probe.now.made = omega (arith, made, i.lo_is, scan.from) in
-    abort_breaks marks _ _ _ _ _ n_is within _ c.in-Some-2.i i.unset (subst IsReadAgain count d.again) (omega (arith, made, before)) (subst (λ k. Clear marks (g.S.Splitter.lo c.args.input) k) made next.clear) m d.decided.set
-    (λ a f. d.decided.by_another (i.seat.alone ∙ a) (i.seat.abort f.abort))
+    rw c.found-then-ended.ensures
+    (abort_breaks marks _ _ _ _ _ n_is within _ c.in_ok-i-2.i i.unset (subst IsReadAgain count d.0) (omega (arith, made, before)) (subst (λ k. Clear marks (g.S.Splitter.lo c.args.input) k) made next.clear) m (c.decider.ensures.later.abort d.1.set)
+    (λ a f. d.1.by_another (i.seat.alone ∙ a) (i.seat.abort f.abort)))
 
-pub returns-in-Some-2-clause-good : goal.returns-in-Some-2-clause-good
-returns-in-Some-2-clause-good g c =
-    let d = rw c.in-Some-2.is at c.in_ok-i-2.ensures.read in subst (λ w. IsMarked w c.in-Some-2.i) c.requires.marks d.decided.marked
+pub returns-then-ended-clause-good : goal.returns-then-ended-clause-good
+returns-then-ended-clause-good g c = rw c.found-then-ended.ensures (subst (λ w. IsMarked w c.in_ok-i-2.i) c.requires.marks c.in_ok-i-2.ensures.marked)
 
 pub loop-item-preserved : goal.loop-item-preserved
 loop-item-preserved g c =
@@ -140,7 +146,7 @@ loop-item-preserved g c =
       inner = c.test-verdict.ensures.inner ∙ i.inner;
       made = omega (arith, c.test-verdict.ensures.made, i.made);
       unset = i.unset;
-      seat = going_join _ _ _ i.seat (rw c.in_default-2.is at c.in_ok-i-2.ensures.read);
+      seat = going_join _ _ _ i.seat (c.is_decided-ended.ensures.unset c.if-ended.false);
       fault = rw c.note_fault-fault.ensures (fault_step _ _ c.loop-item.at _ c.test-verdict.result scan.from at_is i.fault);
     }
 
