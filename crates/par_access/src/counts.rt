@@ -3,6 +3,7 @@ ghost use Rattle.std.specs.Prelude.{◌≡◌, ◌≤◌, length, map, IfOk};
 ghost use Rattle.std.specs.List.{count_by};
 ghost use Rattle.par_task.specs.Marking.{no_flag, passes};
 ghost use Rattle.par_access.specs.Faults.{fault_of, tried};
+ghost use Rattle.par_access.specs.Found.{counted_by};
 ghost use Rattle.par_access.specs.Runs.{IsRunAlone};
 
 use par_edge::Gate;
@@ -11,6 +12,16 @@ use par_laws::{Memory, Test, Tried};
 use par_splitter::Splitter;
 use par_task::{Audit, Marked, run_alone};
 use std::alloc::Global;
+
+// What the job counted, or the fault that it met.
+fn counted(sifted: Sifted<u32, Nothing>) -> Tried<u32>
+    ensures { result ≡ counted_by sifted }
+{
+    match sifted {
+        Sifted::Got(count, _) => Tried::Got(count),
+        Sifted::Fell(fault) => Tried::Fault(fault),
+    }
+}
 
 /// How many items pass; or the fault with the least index, where an item faults.
 pub fn count_alone<S: Splitter, G: Gate, P: Test<S::Item>>(
@@ -34,9 +45,5 @@ pub fn count_alone<S: Splitter, G: Gate, P: Test<S::Item>>(
     };
     let marks = Marked::over(&split, test, false);
     let (sifted, audit) = run_alone(alloc, &job, test, &marks, source, level, gate)?;
-    let answer = match sifted {
-        Sifted::Got(count, _) => Tried::Got(count),
-        Sifted::Fell(fault) => Tried::Fault(fault),
-    };
-    Ok((answer, audit))
+    Ok((counted(sifted), audit))
 }

@@ -1,11 +1,12 @@
 //! Searches for the first item that ends a run, and for the last one that passes.
-ghost use Rattle.std.specs.Prelude.{◌≡◌, ◌≤◌, ◌+◌, length, map, drop, IfOk};
+ghost use Rattle.std.specs.Prelude.{◌≡◌, ◌≤◌, ◌+◌, length, map, drop, IfOk, cond, min, nat_lt, Some, None};
 ghost use Rattle.par_laws.specs.Marks.{stop, last};
 ghost use Rattle.par_laws.specs.Verdict.{contrary};
 ghost use Rattle.par_lists.specs.Cuts as cuts;
 ghost use Rattle.par_lists.specs.Searches as searches;
 ghost use Rattle.par_task.specs.Marking.{low_flag, high_flag, marks_of, passes};
 ghost use Rattle.par_access.specs.Faults as faults;
+ghost use Rattle.par_access.specs.Found.{below};
 ghost use Rattle.par_access.specs.Runs.{IsRunAlone};
 
 use crate::faults::{fault_before, fault_here, tried};
@@ -16,6 +17,27 @@ use par_lists::{index_of, place_of};
 use par_splitter::{Precise, Rebased, Splitter};
 use par_task::{Audit, Marked, run_alone};
 use std::alloc::Global;
+
+// The index, where it is one of so many items.
+fn index_within(end: u32, count: u32) -> Option<u32>
+    ensures { result ≡ cond (nat_lt end count) (Some end) None }
+{
+    if end < count { Some(end) } else { None }
+}
+
+// The index below, if there is one.
+fn index_below(above: u32) -> Option<u32>
+    ensures { result ≡ below above }
+{
+    if above > 0 { Some(above - 1) } else { None }
+}
+
+// The place that a number names among so many items, or their number where it is past them.
+fn place_among(from: i64, count: u32) -> u32
+    ensures { result ≡ min (cuts.place from) count }
+{
+    place_of(from).min(u64::from(count)) as u32
+}
 
 // The index of the first item that passes or faults, or the number of items.
 fn front<S: Splitter, G: Gate, P: Test<S::Item>>(
@@ -58,11 +80,7 @@ pub fn index_where_alone<S: Precise, G: Gate, P: Test<S::Item>>(
 {
     let whole = source.dup();
     let (end, audit) = front(alloc, source, test, level, gate)?;
-    let found = if end < whole.remaining() {
-        Some(end)
-    } else {
-        None
-    };
+    let found = index_within(end, whole.remaining());
     let fault = fault_here(&whole, test, end);
     Ok((tried(fault, index_of(found)), audit))
 }
@@ -87,7 +105,7 @@ pub fn last_index_where_alone<S: Precise, G: Gate, P: Test<S::Item>>(
     };
     let marks = Marked::over(&whole, test, true);
     let (above, audit) = run_alone(alloc, &job, test, &marks, source, level, gate)?;
-    let found = if above > 0 { Some(above - 1) } else { None };
+    let found = index_below(above);
     let fault = fault_before(&whole, test, above);
     Ok((tried(fault, index_of(found)), audit))
 }
@@ -109,7 +127,7 @@ pub fn segment_length_alone<S: Precise, G: Gate, P: Test<S::Item>>(
     ensures audit { IfOk result (λ r. IsRunAlone low_flag (map (λ x. contrary (P.verdict test.now x)) (drop (cuts.place from) (S.items source))) level r.1) }
 {
     let whole = source.dup();
-    let first = place_of(from).min(u64::from(source.remaining())) as u32;
+    let first = place_among(from, source.remaining());
     let (_, rest) = source.cut_at(first);
     let fails = Not { inner: test };
     let (count, audit) = front(alloc, Rebased::new(rest), &fails, level, gate)?;
