@@ -10,7 +10,7 @@ use Rattle.par_laws.specs.Marks.{last, last_after}
 use Rattle.par_lists.specs.Searches.{last_index_where, last_position, one_on, index_or_minus_one}
 use Rattle.par_task.specs.Marking.{high_flag, marks_of, is_mark, passes, halts}
 use Rattle.par_access.specs.Faults.{fault_at, fault_below, faults, tried}
-use Rattle.par_access.specs.Found.{below}
+use Rattle.par_access.specs.Parts.{below}
 use Rattle.par_access.proofs.Firsts.{same_tried, no_fault, fault_none, next_one}
 
 one_back : (v : Verdict) (vs : List Verdict) (i : ℕ) → fault_at (v ∷ vs) (i + 1) ≡ None → fault_at vs i ≡ None

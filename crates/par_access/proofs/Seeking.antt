@@ -18,7 +18,8 @@ use Rattle.par_jobs.specs.declared.search.Sought.{Sought}
 use Rattle.par_jobs.specs.declared.search.Sought.TheVariants.{Found, Fell, Nowhere}
 use Rattle.par_jobs.specs.Merges.{IsSought}
 use Rattle.par_access.specs.Faults.{fault_by, fault_at, faults, least_fault, fault_of, tried}
-use Rattle.par_access.specs.Found.{IsFound, tried_by, place_by}
+use Rattle.par_access.specs.Found.{IsFound}
+use Rattle.par_access.specs.Parts.{tried_by, place_by}
 use Rattle.par_access.proofs.Firsts.{fault_none}
 
 faults_not : (v : Verdict) → ((kind : ℕ) → v ≡ verdict.Fault kind → ⊥) → faults v ≡ false

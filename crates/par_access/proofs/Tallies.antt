@@ -12,7 +12,7 @@ use Rattle.par_jobs.specs.declared.sift.Sifted.{Sifted}
 use Rattle.par_jobs.specs.declared.sift.Sifted.TheVariants as sifted
 use Rattle.par_jobs.specs.declared.stock.Nothing.{Nothing}
 use Rattle.par_access.specs.Faults.{least_fault, fault_of, tried}
-use Rattle.par_access.specs.Found.{counted_by}
+use Rattle.par_access.specs.Parts.{counted_by}
 use Rattle.par_access.proofs.Seeking.{least_is, no_least}
 
 -- all items

@@ -3,7 +3,7 @@ ghost use Rattle.std.specs.Prelude.{◌≡◌, ◌≤◌, length, map, IfOk};
 ghost use Rattle.std.specs.List.{count_by};
 ghost use Rattle.par_task.specs.Marking.{no_flag, passes};
 ghost use Rattle.par_access.specs.Faults.{fault_of, tried};
-ghost use Rattle.par_access.specs.Found.{counted_by};
+ghost use Rattle.par_access.specs.Parts.{counted_by};
 ghost use Rattle.par_access.specs.Runs.{IsRunAlone};
 
 use par_edge::Gate;

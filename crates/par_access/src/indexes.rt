@@ -6,7 +6,7 @@ ghost use Rattle.par_lists.specs.Cuts as cuts;
 ghost use Rattle.par_lists.specs.Searches as searches;
 ghost use Rattle.par_task.specs.Marking.{low_flag, high_flag, marks_of, passes};
 ghost use Rattle.par_access.specs.Faults as faults;
-ghost use Rattle.par_access.specs.Found.{below};
+ghost use Rattle.par_access.specs.Parts.{below};
 ghost use Rattle.par_access.specs.Runs.{IsRunAlone};
 
 use crate::faults::{fault_before, fault_here, tried};

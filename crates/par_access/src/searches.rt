@@ -6,7 +6,8 @@ ghost use Rattle.par_laws.specs.Verdict.{contrary};
 ghost use Rattle.par_task.specs.Marking.{abort_flag, marks_of, passes};
 ghost use Rattle.par_jobs.specs.Merges.{IsSought};
 ghost use Rattle.par_access.specs.Faults.{fault_of, tried};
-ghost use Rattle.par_access.specs.Found.{IsFound, place_by, tried_by};
+ghost use Rattle.par_access.specs.Found.{IsFound};
+ghost use Rattle.par_access.specs.Parts.{place_by, tried_by};
 ghost use Rattle.par_access.specs.Pairs.{even_pairs, same_elements};
 ghost use Rattle.par_access.specs.Runs.{IsRunAlone};
 
