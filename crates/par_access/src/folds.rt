@@ -73,14 +73,8 @@ pub fn reduce_option_alone<S: Splitter, G: Gate, M: Monoid, F: Mapper<S::Item, M
     ensures answer { IfOk result (λ r. option_map M.T.shown r.0 ≡ reduce (M.joined how.now) (map (F.mapped of.now) (S.items source))) }
     ensures audit { IfOk result (λ r. IsRunAlone no_test (untested (S.items source)) level r.1) }
 {
-    fold_alone(
-        alloc,
-        source,
-        &Maybe { how },
-        &Present { of },
-        level,
-        gate,
-    )
+    let (how, of) = (Maybe { how }, Present { of });
+    fold_alone(alloc, source, &how, &of, level, gate)
 }
 
 /// The sum of what `of` makes of the items. It wraps at the ends of `i64`, and of no item it is 0.
