@@ -124,7 +124,14 @@ fn folds_numbers(rt: HostRuntime) -> Result<(), Fail> {
         (0, 5, 10, 0, Some(0), Some(4)),
         (1, 4, 6, 6, Some(1), Some(3)),
         (0, 0, 0, 1, None, None),
-        (i64::MAX - 1, i64::MAX, i64::MAX - 1, i64::MAX - 1, Some(i64::MAX - 1), Some(i64::MAX - 1)),
+        (
+            i64::MAX - 1,
+            i64::MAX,
+            i64::MAX - 1,
+            i64::MAX - 1,
+            Some(i64::MAX - 1),
+            Some(i64::MAX - 1),
+        ),
     ];
     for (a, b, sum, product, least, greatest) in cases {
         let source = from_to(a, b).ok_or("few")?;
@@ -306,8 +313,7 @@ fn segments(rt: HostRuntime) -> Result<(), Fail> {
     let below = Not { inner: FROM_FIVE };
     for (from, length, count, tests) in cases {
         let source = from_to(0, 8).ok_or("few")?;
-        let (found, audit) =
-            segment_length_alone(rt.alloc(), source, &below, from, 4, &OpenGate)?;
+        let (found, audit) = segment_length_alone(rt.alloc(), source, &below, from, 4, &OpenGate)?;
         assert_eq!(rt; found, length);
         assert_eq!(rt; tested(&audit), tests);
         let leaves = audit.leaves();
@@ -330,8 +336,7 @@ fn compares(rt: HostRuntime) -> Result<(), Fail> {
     for (a, b, same, leaves) in cases {
         let source = from_to(0, 5).ok_or("few")?;
         let other = from_to(a, b).ok_or("few")?;
-        let (found, audit) =
-            same_elements_alone(rt.alloc(), source, other, &Alike, 4, &OpenGate)?;
+        let (found, audit) = same_elements_alone(rt.alloc(), source, other, &Alike, 4, &OpenGate)?;
         assert_eq!(rt; found, Tried::Got(same));
         assert_eq!(rt; audit.leaves().len(), leaves);
     }

@@ -13,7 +13,7 @@ returns-clause-answer g c =
     let fits : FitsSigned w64 c.index_of.result = search rules in
     let xs = g.S.Splitter.items c.args.source in
     let above : c.in_ok-above.above ≡ last (marks_of high_flag (map V xs)) =
-        rw c.dup-whole.ensures.items_same at (rw c.over.ensures at (above_is (g.P.Test.verdict c.over.result.inner) (g.S.Splitter.items c.over.result.split) c.in_ok-above.above c.in_ok-above.ensures.good)) in
+    rw c.dup-whole.ensures.items_same at (rw c.over.ensures at (above_is (g.P.Test.verdict c.over.result.inner) (g.S.Splitter.items c.over.result.split) c.in_ok-above.above c.in_ok-above.ensures.good)) in
     let fault = rw c.dup-whole.ensures.items_same at c.fault_before-fault.ensures in
     let found = c.index_of.ensures ∙ ap index_or_minus_one c.index_below-found.ensures in
     rw (to_z-of_z w64 c.index_of.result fits) at c.tried.ensures
