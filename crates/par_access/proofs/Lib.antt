@@ -1,0 +1,7 @@
+pub mod Ran
+pub mod Reducing
+pub mod Firsts
+pub mod Lasting
+pub mod Seeking
+pub mod Tallies
+pub mod Paired

@@ -1,0 +1,163 @@
+//! Searches for any item that passes.
+ghost use Rattle.std.specs.Prelude.{◌≡◌, ◌≤◌, length, map, true, false, cond, nat_eq, IfOk};
+ghost use Rattle.std.specs.List.{list_any, list_all};
+ghost use Rattle.par_laws.specs.declared.tried.Tried.TheVariants.{Got};
+ghost use Rattle.par_laws.specs.Verdict.{contrary};
+ghost use Rattle.par_task.specs.Marking.{abort_flag, marks_of, passes};
+ghost use Rattle.par_jobs.specs.Merges.{IsSought};
+ghost use Rattle.par_access.specs.Faults.{fault_of, tried};
+ghost use Rattle.par_access.specs.Found.{IsFound};
+ghost use Rattle.par_access.specs.Parts.{place_by, tried_by};
+ghost use Rattle.par_access.specs.Pairs.{even_pairs, same_elements};
+ghost use Rattle.par_access.specs.Runs.{IsRunAlone};
+
+use par_edge::Gate;
+use par_jobs::{SearchJob, Sought};
+use par_laws::{Memory, Not, Test, Tried};
+use par_splitter::{Precise, Splitter, ZipSplitter};
+use par_task::{Audit, Marked, run_alone};
+use std::alloc::Global;
+
+// An item that passes; or, where none passes, the least fault; or nothing.
+fn search<S: Splitter, G: Gate, P: Test<S::Item>>(
+    alloc: Global,
+    source: S,
+    test: &P,
+    level: u32,
+    gate: &G,
+) -> Result<(Sought, Audit), Memory>
+    requires begins { S.lo source ≡ 0 }
+    requires small { length (S.items source) ≤ 4194304 }
+    requires level { (1 ≤ level) × (level ≤ 64) }
+    ensures answer { IfOk result (λ r. IsSought (map (P.verdict test.now) (S.items source)) (marks_of abort_flag (map (P.verdict test.now) (S.items source))) 0 (length (S.items source)) r.0) }
+    ensures audit { IfOk result (λ r. IsRunAlone abort_flag (map (P.verdict test.now) (S.items source)) level r.1) }
+{
+    let split = source.dup();
+    let job = SearchJob {
+        marked: Marked::over(&split, test, false),
+    };
+    let marks = Marked::over(&split, test, false);
+    run_alone(alloc, &job, test, &marks, source, level, gate)
+}
+
+// What a question of truth answers: `found` where an item passes, and else the contrary, or the fault.
+fn answered(sought: Sought, found: bool) -> Tried<bool>
+    ensures { result ≡ tried_by sought found }
+{
+    match sought {
+        Sought::Found(_) => Tried::Got(found),
+        Sought::Fell(fault) => Tried::Fault(fault),
+        Sought::Nowhere => Tried::Got(!found),
+    }
+}
+
+// What `find` answers by a search.
+fn place(sought: Sought) -> Tried<Option<u32>>
+    ensures { result ≡ place_by sought }
+{
+    match sought {
+        Sought::Found(i) => Tried::Got(Some(i)),
+        Sought::Fell(fault) => Tried::Fault(fault),
+        Sought::Nowhere => Tried::Got(None),
+    }
+}
+
+/// The index of an item that passes, and not always of the first one. None exactly where none passes and none faults;
+/// where none passes and one faults, the fault with the least index.
+pub fn find_alone<S: Precise, G: Gate, P: Test<S::Item>>(
+    alloc: Global,
+    source: S,
+    test: &P,
+    level: u32,
+    gate: &G,
+) -> Result<(Tried<Option<u32>>, Audit), Memory>
+    requires begins { S.lo source ≡ 0 }
+    requires small { length (S.items source) ≤ 4194304 }
+    requires level { (1 ≤ level) × (level ≤ 64) }
+    ensures answer { IfOk result (λ r. IsFound (map (P.verdict test.now) (S.items source)) r.0) }
+    ensures audit { IfOk result (λ r. IsRunAlone abort_flag (map (P.verdict test.now) (S.items source)) level r.1) }
+{
+    let (sought, audit) = search(alloc, source, test, level, gate)?;
+    Ok((place(sought), audit))
+}
+
+/// Whether an item passes; or, where none passes, the fault with the least index.
+pub fn exists_alone<S: Splitter, G: Gate, P: Test<S::Item>>(
+    alloc: Global,
+    source: S,
+    test: &P,
+    level: u32,
+    gate: &G,
+) -> Result<(Tried<bool>, Audit), Memory>
+    requires begins { S.lo source ≡ 0 }
+    requires small { length (S.items source) ≤ 4194304 }
+    requires level { (1 ≤ level) × (level ≤ 64) }
+    ensures answer { IfOk result (λ r. r.0 ≡ tried (fault_of abort_flag (map (P.verdict test.now) (S.items source))) (list_any (λ x. passes (P.verdict test.now x)) (S.items source))) }
+    ensures audit { IfOk result (λ r. IsRunAlone abort_flag (map (P.verdict test.now) (S.items source)) level r.1) }
+{
+    let (sought, audit) = search(alloc, source, test, level, gate)?;
+    Ok((answered(sought, true), audit))
+}
+
+/// Whether every item passes; or, where none fails, the fault with the least index. It searches for an item that fails.
+pub fn forall_alone<S: Splitter, G: Gate, P: Test<S::Item>>(
+    alloc: Global,
+    source: S,
+    test: &P,
+    level: u32,
+    gate: &G,
+) -> Result<(Tried<bool>, Audit), Memory>
+    requires begins { S.lo source ≡ 0 }
+    requires small { length (S.items source) ≤ 4194304 }
+    requires level { (1 ≤ level) × (level ≤ 64) }
+    ensures answer { IfOk result (λ r. r.0 ≡ tried (fault_of abort_flag (map (λ x. contrary (P.verdict test.now x)) (S.items source))) (list_all (λ x. passes (P.verdict test.now x)) (S.items source))) }
+    ensures audit { IfOk result (λ r. IsRunAlone abort_flag (map (λ x. contrary (P.verdict test.now x)) (S.items source)) level r.1) }
+{
+    let fails = Not { inner: test };
+    let (sought, audit) = search(alloc, source, &fails, level, gate)?;
+    Ok((answered(sought, false), audit))
+}
+
+// How many pairs are looked at: all of two lengths that are alike, and else none.
+fn even_count(count: u32, others: u32) -> u32
+    ensures { result ≡ cond (nat_eq count others) count 0 }
+{
+    if count == others { count } else { 0 }
+}
+
+// The answer of the pairs, where the lengths are alike, and else false.
+fn if_even(count: u32, others: u32, all: Tried<bool>) -> Tried<bool>
+    ensures { result ≡ cond (nat_eq count others) all (Got false) }
+{
+    if count == others {
+        all
+    } else {
+        Tried::Got(false)
+    }
+}
+
+/// Whether the two sources have as many items and every pair passes; or, where no pair fails, the fault with the least
+/// index. The leaves are of the pairs. Where the lengths differ the answer is false, no pair is tested, and the audit has
+/// one leaf over nothing.
+pub fn same_elements_alone<S: Precise, G: Gate, R: Precise, Q: Test<(S::Item, R::Item)>>(
+    alloc: Global,
+    source: S,
+    other: R,
+    same: &Q,
+    level: u32,
+    gate: &G,
+) -> Result<(Tried<bool>, Audit), Memory>
+    requires begins { S.lo source ≡ 0 }
+    requires small { length (S.items source) ≤ 4194304 }
+    requires level { (1 ≤ level) × (level ≤ 64) }
+    ensures answer { IfOk result (λ r. r.0 ≡ tried (fault_of abort_flag (map (λ x. contrary (Q.verdict same.now x)) (even_pairs (S.items source) (R.items other)))) (same_elements (λ x. passes (Q.verdict same.now x)) (S.items source) (R.items other))) }
+    ensures audit { IfOk result (λ r. IsRunAlone abort_flag (map (λ x. contrary (Q.verdict same.now x)) (even_pairs (S.items source) (R.items other))) level r.1) }
+{
+    let (count, others) = (source.remaining(), other.remaining());
+    let pairs = even_count(count, others);
+    let (left, _) = source.cut_at(pairs);
+    let (right, _) = other.cut_at(pairs);
+    let source = ZipSplitter::new(left, right);
+    let (all, audit) = forall_alone(alloc, source, same, level, gate)?;
+    Ok((if_even(count, others, all), audit))
+}
