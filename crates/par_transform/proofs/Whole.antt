@@ -1,0 +1,35 @@
+-- A run over a whole list: what is known of its part is what its call answers.
+use Rattle.std.proofs.Common.{◌≡◌, ℕ, ◌+◌, ◌-◌, ◌≤◌, min, Bool, true, false, List, [], ◌∷◌, length, map, take, drop, Result, Ok, Err, IfOk, refl, ap, sym, ◌∙◌, subst, arith}
+use Rattle.std.proofs.lemmas.List.{take_all}
+use Rattle.par_laws.specs.declared.test.Verdict.{Verdict}
+use Rattle.par_laws.specs.declared.test.Verdict.TheVariants.{Pass, Fail, Fault}
+use Rattle.par_task.specs.declared.audit.Leaf.{Leaf}
+use Rattle.par_task.specs.Marking.{Kind, marks_of, is_mark, no_test}
+use Rattle.par_task.specs.MarkedBy.{marks_by}
+use Rattle.par_task.specs.Audits.{IsAudit, threshold_of}
+use Rattle.par_task.specs.Alone.{IsOneChain, TestsInAll}
+use Rattle.par_task.specs.Parts.{between}
+use Rattle.par_transform.specs.Runs.{IsRunAlone, untested}
+
+-- three facts of an answer, where there is one, are one
+pub ran_alone :
+    {X P E : Type 0} (kind : Kind) (verdict : X → Verdict) (items : List X) (level : ℕ) (r : Result (P × List Leaf) E) →
+    IfOk r (λ a. IsAudit kind (marks_of kind (map verdict items)) (length items) (threshold_of (length items) level) 1 a.1) →
+    IfOk r (λ a. IsOneChain a.1) → IfOk r (λ a. TestsInAll kind (marks_of kind (map verdict items)) a.1) →
+    IfOk r (λ a. IsRunAlone kind verdict items level a.1)
+ran_alone kind verdict items level (Ok a) audit chain tested = record { audit = audit; chain = chain; tested = tested }
+ran_alone kind verdict items level (Err e) audit chain tested = tt
+
+-- a test that no item passes marks none
+pub never_marks : {X : Type 0} (faults : Bool) (xs : List X) → map (marks_by faults) (map untested xs) ≡ map (is_mark no_test) (map untested xs)
+never_marks true [] = refl
+never_marks false [] = refl
+never_marks true (x ∷ xs) = ap (λ l. false ∷ l) (never_marks true xs)
+never_marks false (x ∷ xs) = ap (λ l. false ∷ l) (never_marks false xs)
+
+-- all items from the first on, before an index
+pub between_front : {X : Type 0} (xs : List X) (m : ℕ) → between xs 0 m ≡ take m xs
+between_front xs m = let e : m - 0 ≡ m = omega arith in ap (λ k. take k xs) e
+
+pub between_all : {X : Type 0} (xs : List X) → between xs 0 (length xs) ≡ xs
+between_all xs = between_front xs (length xs) ∙ take_all (length xs) xs (omega arith)
