@@ -1,1 +1,4 @@
+pub mod Cutting
+pub mod Faults
+pub mod Stops
 pub mod Whole

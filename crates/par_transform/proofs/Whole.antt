@@ -5,7 +5,7 @@ use Rattle.par_laws.specs.declared.test.Verdict.{Verdict}
 use Rattle.par_laws.specs.declared.test.Verdict.TheVariants.{Pass, Fail, Fault}
 use Rattle.par_task.specs.declared.audit.Leaf.{Leaf}
 use Rattle.par_task.specs.Marking.{Kind, marks_of, is_mark, no_test}
-use Rattle.par_task.specs.MarkedBy.{marks_by}
+use Rattle.par_task.specs.MarkedBy.{MarkedBy, marks_by}
 use Rattle.par_task.specs.Audits.{IsAudit, threshold_of}
 use Rattle.par_task.specs.Alone.{IsOneChain, TestsInAll}
 use Rattle.par_task.specs.Parts.{between}
@@ -33,3 +33,15 @@ between_front xs m = let e : m - 0 ≡ m = omega arith in ap (λ k. take k xs) e
 
 pub between_all : {X : Type 0} (xs : List X) → between xs 0 (length xs) ≡ xs
 between_all xs = between_front xs (length xs) ∙ take_all (length xs) xs (omega arith)
+
+-- what an answer tells, where there is one
+pub ok_map : {T E : Type 0} (r : Result T E) (p q : T → Type 0) → ((a : T) → p a → q a) → IfOk r p → IfOk r q
+ok_map (Ok a) p q f h = f a h
+ok_map (Err e) p q f h = tt
+
+-- what is told of the marks' own source and test, told of the call's
+pub retold :
+    {S P X R E : Type 0} (items : S → List X) (m : MarkedBy S P) (dup source : S) (test : P) (faults : Bool) (r : Result R E) (holds : P → List X → R → Type 0) →
+    m ≡ record { split = dup; inner = test; faults = faults } → items dup ≡ items source → IfOk r (holds m.inner (items m.split)) → IfOk r (holds test (items source))
+retold items m dup source test faults r holds over same h =
+    subst (λ xs. IfOk r (holds test xs)) same (subst (λ n. IfOk r (holds n.inner (items n.split))) over h)
