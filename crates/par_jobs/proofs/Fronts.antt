@@ -7,7 +7,8 @@ use Rattle.par_signal.specs.Seen.{Seen}
 use Rattle.par_signal.specs.Values.{IsSet}
 use Rattle.par_signal.specs.Calls.{sees_low, lowers}
 use Rattle.par_task.specs.Spans.{IsSpan}
-use Rattle.par_task.specs.Seats.{IsLater, IsFresh}
+use Rattle.par_task.specs.Marking.{low_flag}
+use Rattle.par_task.specs.Seats.{IsLater, IsFresh, IsLeafOf}
 use Rattle.par_task.specs.Parts.{between, IsFront}
 use Rattle.par_task.proofs.Stops.{bool_cases, stop_marked, stop_least, stop_within}
 use Rattle.par_jobs.specs.Steps.{IsLowRead}
@@ -85,6 +86,9 @@ low_read_join a b c p q = record {
   still = λ a. q.still (p.alone ∙ a) ∙ p.still a;
 }
 
+pub low_read_none : (a : Seen) → IsLowRead a a
+low_read_none a = record { of = refl; low = omega arith; high = refl; abort = refl; alone = refl; still = λ _. refl }
+
 -- a seat that is alone stays fresh
 pub low_read_fresh : (old new : Seen) → IsLowRead old new → old.alone ≡ true → IsFresh old → IsFresh new
 low_read_fresh old new r a f = record {
@@ -105,3 +109,16 @@ lower_later old new i x e h = record {
   abort = λ s. subst IsSet (sym (ap (λ (v : Seen). v.abort) e)) s;
   alone = λ a. ap (λ (v : Seen). v.alone) e ∙ a;
 }
+
+-- a leaf that went on after its flag was read is a leaf from before the read on
+pub leaf_after_read : (marks : List Bool) (lo hi : ℕ) (old mid new : Seen) (flag c : ℕ) → IsLowRead old mid → IsLeafOf low_flag marks lo hi mid new flag c → IsLeafOf low_flag marks lo hi old new flag c
+leaf_after_read marks lo hi old mid new flag c r l = record {
+  lawful = l.lawful;
+  heeds = omega (arith, l.heeds, r.low);
+  found = l.found;
+  full = λ a f. l.full (r.alone ∙ a) (low_read_fresh old mid r a f);
+}
+
+-- the items of a span are those between its ends
+pub span_between : {X : Type 0} (source : List X) (lo : ℕ) (items : List X) → IsSpan source lo items → items ≡ between source lo (lo + length items)
+span_between source lo items s = let n : length items ≡ lo + length items - lo = omega arith in s.same ∙ ap (λ k. take k (drop lo source)) n

@@ -2,3 +2,4 @@ pub mod Scanning
 pub mod Fronts
 pub mod Faults
 pub mod Lasts
+pub mod Spanning

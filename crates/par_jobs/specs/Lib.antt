@@ -2,3 +2,4 @@ pub mod Stock
 pub mod Steps
 pub mod Passing
 pub mod Merges
+pub mod Spanned

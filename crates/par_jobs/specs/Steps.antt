@@ -30,10 +30,9 @@ pub record IsLowRead (old new : Seen) : Type 0 where
   pub alone : new.alone ≡ old.alone
   pub still : old.alone ≡ true → new.low ≡ old.low
 
--- the low flag was read again before item at, and is at most at
-pub record IsPast (marks : List Bool) (old : Seen) (lo at left : ℕ) : Type 0 where
-  pub again : IsReadAgain (at - lo)
-  pub more : 0 < left
+-- the low flag was read while items up to hi were left, and is at most at
+pub record IsLowered (marks : List Bool) (old : Seen) (at hi : ℕ) : Type 0 where
+  pub more : at < hi
   pub past : stop marks ≤ at
   pub by_another : old.alone ≡ true → old.low ≤ at
 
@@ -56,12 +55,6 @@ abbrev pub IsAbortRead : List Bool → Seen → Seen → Option ℕ → Type 0
 IsAbortRead marks old new None = IsUnset old new
 IsAbortRead marks old new (Some i) = IsDecided marks old new i
 
--- a read of the abort flag before item at, which is made only after every 512 items while items are left
-pub record IsDecidedAgain (marks : List Bool) (old new : Seen) (lo at left i : ℕ) : Type 0 where
-  pub again : IsReadAgain (at - lo)
-  pub more : 0 < left
-  pub decided : IsDecided marks old new i
-
 -- what a seat that has seen no abort knows after it went on
 pub record IsGoingOn (old new : Seen) : Type 0 where
   pub of : new.of ≡ old.of
@@ -71,6 +64,12 @@ pub record IsGoingOn (old new : Seen) : Type 0 where
   pub set : IsSet old.abort → IsSet new.abort
   pub alone : new.alone ≡ old.alone
 
+-- a read of the abort flag before item at that is made only while items up to hi are left
+abbrev pub IsAbortReadMeanwhile : List Bool → Seen → Seen → ℕ → ℕ → Option ℕ → Type 0
+IsAbortReadMeanwhile marks old new at hi None = IsGoingOn old new
+IsAbortReadMeanwhile marks old new at hi (Some i) = (at < hi) × IsDecided marks old new i
+
+-- a read of the abort flag before item at, which is made only after every 512 items while items are left
 abbrev pub IsAbortReadAgain : List Bool → Seen → Seen → ℕ → ℕ → ℕ → Option ℕ → Type 0
-IsAbortReadAgain marks old new lo at left None = IsGoingOn old new
-IsAbortReadAgain marks old new lo at left (Some i) = IsDecidedAgain marks old new lo at left i
+IsAbortReadAgain marks old new lo at hi None = IsGoingOn old new
+IsAbortReadAgain marks old new lo at hi (Some i) = IsReadAgain (at - lo) × (at < hi) × IsDecided marks old new i

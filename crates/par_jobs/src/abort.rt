@@ -1,7 +1,7 @@
 //! Reads of the abort flag.
 ghost use Rattle.std.specs.Prelude.{◌≡◌, ◌<◌, ◌≤◌, ◌-◌, IfOk};
 ghost use Rattle.par_task.specs.Seats.{IsLater};
-ghost use Rattle.par_jobs.specs.Steps.{IsAbortRead, IsAbortReadAgain};
+ghost use Rattle.par_jobs.specs.Steps.{IsAbortRead, IsAbortReadMeanwhile, IsAbortReadAgain};
 
 use par_laws::Memory;
 use par_signal::{Abort, SignalSeat, Signals};
@@ -19,21 +19,39 @@ pub(crate) fn decided(signals: &Signals, seat: &mut SignalSeat) -> Result<Option
     }
 }
 
-// The same before item `at` of a leaf that began at `lo`: the flag is read after every 512 items, while items are left.
+// The same where item `at` is before `hi`. It stays out of line, so that the loop over the items keeps to one test of its counter.
+#[inline(never)]
+fn decided_meanwhile(
+    signals: &Signals,
+    seat: &mut SignalSeat,
+    at: u32,
+    hi: u32,
+) -> Result<Option<u32>, Memory>
+    requires { seat.old.of ≡ signals.now }
+    ensures later { IsLater seat.old seat.new }
+    ensures read { IfOk result (λ r. IsAbortReadMeanwhile signals.now.marks seat.old seat.new at hi r) }
+{
+    if hi <= at {
+        return Ok(None);
+    }
+    decided(signals, seat)
+}
+
+// The same before item `at` of a leaf over `lo..hi`: the flag is read after every 512 items, while items are left.
 pub(crate) fn decided_again(
     signals: &Signals,
     seat: &mut SignalSeat,
     lo: u32,
     at: u32,
-    left: u32,
+    hi: u32,
 ) -> Result<Option<u32>, Memory>
     requires seat { seat.old.of ≡ signals.now }
     requires on { lo < at }
     ensures later { IsLater seat.old seat.new }
-    ensures read { IfOk result (λ r. IsAbortReadAgain signals.now.marks seat.old seat.new lo at left r) }
+    ensures read { IfOk result (λ r. IsAbortReadAgain signals.now.marks seat.old seat.new lo at hi r) }
 {
-    if (at - lo) % 512 != 0 || left == 0 {
+    if (at - lo) % 512 != 0 {
         return Ok(None);
     }
-    decided(signals, seat)
+    decided_meanwhile(signals, seat, at, hi)
 }

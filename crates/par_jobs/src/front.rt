@@ -70,11 +70,12 @@ impl<'a, S: Splitter, P: Test<S::Item>, B: Builder<S::Item>> Job for FrontJob<'a
             signals,
             seat,
         )?;
+        let whole = passed.ended.is_whole();
         Ok(Done {
             part: Front {
                 kept: passed.kept,
                 end: passed.at,
-                whole: passed.whole,
+                whole,
             },
             flag: passed.flag,
         })

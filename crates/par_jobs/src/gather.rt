@@ -2,6 +2,7 @@
 ghost use Rattle.std.specs.Prelude.{◌≡◌, ℕ, ◌≤◌, ◌<◌, ◌^◌, length, map, IfOk};
 
 use crate::builder::Builder;
+use crate::keeping::add_all;
 use par_laws::{Memory, Never, Probe, Shown, Test};
 use par_signal::{SignalSeat, Signals};
 use par_splitter::Splitter;
@@ -41,15 +42,13 @@ impl<'a, S: Splitter, B: Builder<S::Item>> Job for GatherJob<'a, S, B> {
     fn leaf(
         &self,
         alloc: Global,
-        mut input: S,
+        input: S,
         _probe: &mut Probe<'_, Never>,
         _signals: &Signals,
         _seat: &mut SignalSeat,
     ) -> Result<Done<B::Built>, Memory> {
-        let mut built = self.builder.start(alloc)?;
-        while let Some(item) = input.next() {
-            built = self.builder.add(alloc, built, &item)?;
-        }
+        let none = self.builder.start(alloc)?;
+        let built = add_all(alloc, self.builder, none, input)?;
         Ok(Done {
             part: built,
             flag: self.marked.count(),

@@ -5,6 +5,7 @@
 //! | `GatherJob` | no test | folds, `map`, groups |
 //! | `SiftJob` | tests every item | `count`, `filter`, `collect`, `partition` |
 //! | `FrontJob` | ends at the first marked item | `takeWhile`, `indexWhere`, `segmentLength` |
+//! | `SpanJob` | ends at the first marked item, and keeps what is left | `span`, `dropWhile` |
 //! | `SearchJob` | ends at any marked item | `find`, `exists`, `forall`, `sameElements` |
 //! | `LastJob` | looks for the last marked item | `lastIndexWhere` |
 //!
@@ -17,10 +18,12 @@ mod builder;
 mod fault;
 mod front;
 mod gather;
+mod keeping;
 mod last;
 mod low;
 mod search;
 mod sift;
+mod span;
 mod stock;
 #[cfg(test)]
 mod tests;
@@ -31,4 +34,5 @@ pub use gather::GatherJob;
 pub use last::LastJob;
 pub use search::{SearchJob, Sought};
 pub use sift::{SiftJob, Sifted};
+pub use span::{SpanJob, Spanned};
 pub use stock::{Counting, Folding, Listing, Nothing};

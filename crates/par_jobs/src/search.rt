@@ -75,7 +75,7 @@ impl<'a, S: Splitter, P: Test<S::Item>> Job for SearchJob<'a, S, P> {
             return Ok(Done { part, flag: 0 });
         }
         let flag = self.marked.count();
-        let (lo, _) = input.span();
+        let (lo, hi) = input.span();
         let mut at = lo;
         let mut fault: Option<FaultAt> = None;
         while let Some(item) = input.next() {
@@ -90,7 +90,7 @@ impl<'a, S: Splitter, P: Test<S::Item>> Job for SearchJob<'a, S, P> {
             }
             fault = note_fault(fault, verdict, at);
             at += 1;
-            if let Some(i) = decided_again(signals, seat, lo, at, input.remaining())? {
+            if let Some(i) = decided_again(signals, seat, lo, at, hi)? {
                 return Ok(Done {
                     part: Sought::Found(i),
                     flag,

@@ -36,16 +36,15 @@ pub record IsFront {X K : Type 0} (built : List X → K → Type 0) (source : Li
   pub front : lo ≤ stop marks → taken ≡ between source lo (min hi (stop marks))
   pub ends : IsEnd marks lo hi end whole
 
--- A low-flag job that keeps both sides of the stop: what was built is built from two lists that join to the items of
--- lo..hi; where the part is whole the second is empty, and where not all its items are past the stop, the first ends there.
-pub record IsSpanned {X A B : Type 0} (before : List X → A → Type 0) (after : List X → B → Type 0) (source : List X) (marks : List Bool) (lo hi : ℕ) (prefix : A) (suffix : B) (end : ℕ) (whole : Bool) : Type 0 where
-  pub meets : ℕ
-  pub from : lo ≤ meets
-  pub within : meets ≤ hi
-  pub prefix_is : before (between source lo meets) prefix
-  pub suffix_is : after (between source meets hi) suffix
-  pub no_suffix : whole ≡ true → meets ≡ hi
-  pub front : lo ≤ stop marks → meets ≡ min hi (stop marks)
+-- A low-flag job that keeps both sides of the stop: the first is built from the items of lo..hi before its end, and the
+-- second from those from its end on. Where the part is whole its end is hi, so that the second is built from no item; and
+-- where not all its items are past the stop, its end is the stop or hi.
+pub record IsSpanned {X K : Type 0} (built : List X → K → Type 0) (source : List X) (marks : List Bool) (lo hi : ℕ) (prefix suffix : K) (end : ℕ) (whole : Bool) : Type 0 where
+  pub from : lo ≤ end
+  pub within : end ≤ hi
+  pub prefix_is : built (between source lo end) prefix
+  pub suffix_is : built (between source end hi) suffix
+  pub no_suffix : whole ≡ true → end ≡ hi
   pub ends : IsEnd marks lo hi end whole
 
 -- An abort job that found nothing: no item of lo..hi is marked, and none faults.

@@ -112,14 +112,14 @@ returns-in-Some-2-clause-leaf g c =
     let before : c.loop-item.at < g.S.Splitter.lo c.args.input + length (g.S.Splitter.items c.args.input) = omega (arith, scan.ends) in
     let next = scan_next source _ _ _ c.loop-item.at _ _ scan (mark ∙ c.if-pass.false) in
     let d = rw c.in-Some-2.is at c.in_ok-i-2.ensures.read in
-    let m = subst (λ w. IsMarked w c.in-Some-2.i) c.requires.marks d.decided.marked in
+    let m = subst (λ w. IsMarked w c.in-Some-2.i) c.requires.marks d.2.marked in
     let count : c.loop-item.at + 1 - c.span-lo.result.0 ≡ c.test-verdict.new.self.made - c.args.probe.now.made = omega (arith, made, i.lo_is, scan.from) in
-    abort_breaks marks _ _ _ _ _ n_is within _ c.in-Some-2.i i.unset (subst IsReadAgain count d.again) (omega (arith, made, before)) (subst (λ k. Clear marks (g.S.Splitter.lo c.args.input) k) made next.clear) m d.decided.set
-    (λ a f. d.decided.by_another (i.seat.alone ∙ a) (i.seat.abort f.abort))
+    abort_breaks marks _ _ _ _ _ n_is within _ c.in-Some-2.i i.unset (subst IsReadAgain count d.0) (omega (arith, made, before)) (subst (λ k. Clear marks (g.S.Splitter.lo c.args.input) k) made next.clear) m d.2.set
+    (λ a f. d.2.by_another (i.seat.alone ∙ a) (i.seat.abort f.abort))
 
 pub returns-in-Some-2-clause-good : goal.returns-in-Some-2-clause-good
 returns-in-Some-2-clause-good g c =
-    let d = rw c.in-Some-2.is at c.in_ok-i-2.ensures.read in subst (λ w. IsMarked w c.in-Some-2.i) c.requires.marks d.decided.marked
+    let d = rw c.in-Some-2.is at c.in_ok-i-2.ensures.read in subst (λ w. IsMarked w c.in-Some-2.i) c.requires.marks d.2.marked
 
 pub loop-item-preserved : goal.loop-item-preserved
 loop-item-preserved g c =

@@ -4,7 +4,7 @@ use Rattle.par_task.specs.Marking.{low_flag, marks_of}
 use Rattle.par_task.specs.Parts.{between}
 use Rattle.par_jobs.specs.Steps.{IsLowRead}
 use Rattle.par_jobs.proofs.Scanning.{IsScanning}
-use Rattle.par_jobs.proofs.low.pass_low.Given as goal
+use Rattle.par_jobs.proofs.low.pass_items.Given as goal
 
 abbrev pub invariant-loop-item : goal.invariant-loop-item
 invariant-loop-item g l = record {

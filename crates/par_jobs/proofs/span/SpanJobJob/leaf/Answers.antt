@@ -1,0 +1,15 @@
+use Rattle.std.proofs.Common.{◌≡◌, ℕ, ◌+◌, ◌≤◌, length, map, refl, sym, subst, arith, rules}
+use Rattle.par_task.specs.Marking.{low_flag, marks_of}
+use Rattle.par_task.proofs.Running.{marks_length}
+use Rattle.par_jobs.proofs.Spanning.{spanned_of, few_left}
+use Rattle.par_jobs.proofs.span.SpanJobJob.leaf.Goals as goal
+
+pub keep_rest-requires : goal.keep_rest-requires
+keep_rest-requires g c = few_left _ _ _ _ c.in_ok-passed.ensures.left c.args.self.now.small
+
+pub returns-clause-good : goal.returns-clause-good
+returns-clause-good g c =
+    let source = g.S.Splitter.items c.args.self.now.marked.split in
+    let marks = marks_of low_flag (map (g.P.Test.verdict c.args.self.now.marked.inner) source) in
+    let size : length source ≡ length marks = marks_length low_flag (g.P.Test.verdict c.args.self.now.marked.inner) source _ refl in
+    rw c.is_whole-whole.ensures (spanned_of _ source marks _ _ _ _ _ _ _ (omega (arith, c.requires.part.within, size)) c.in_ok-passed.ensures.passed c.in_ok-passed.ensures.left c.in_ok-suffix.ensures)
