@@ -1,4 +1,5 @@
 pub mod Faults
+pub mod Indexes
 pub mod Joins
 pub mod Runs
 pub mod Sifting
