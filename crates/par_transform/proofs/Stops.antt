@@ -7,8 +7,8 @@ use Rattle.par_laws.specs.Verdict.{contrary}
 use Rattle.par_laws.specs.declared.test.Verdict.{Verdict}
 use Rattle.par_laws.specs.declared.test.Verdict.TheVariants.{Pass, Fail, Fault}
 use Rattle.par_task.specs.Marking.{low_flag, marks_of, is_mark, passes}
-use Rattle.par_task.specs.Parts.{between, IsFront}
-use Rattle.par_transform.proofs.Whole.{between_front}
+use Rattle.par_task.specs.Parts.{between, IsFront, IsSpanned}
+use Rattle.par_transform.proofs.Whole.{between_back, between_front}
 
 pub stop_within : (marks : List Bool) → stop marks ≤ length marks
 stop_within [] = omega arith
@@ -34,6 +34,17 @@ module _ {X : Type 0} (verdict : X → Verdict) where
       IsFront built xs (marks_of low_flag (map verdict xs)) 0 (length xs) kept end whole → built (take (stop (marks_of low_flag (map verdict xs))) xs) kept
   front_kept built xs kept end whole front =
       subst (λ ys. built ys kept) (front.front (omega arith) ∙ (ap (between xs 0) (stop_in xs) ∙ between_front xs (stop (marks_of low_flag (map verdict xs))))) front.built_is
+
+  module _ {K : Type 0} (built : List X → K → Type 0) (xs : List X) (prefix suffix : K) (end : ℕ) (whole : Bool) (s : IsSpanned built xs (marks_of low_flag (map verdict xs)) 0 (length xs) prefix suffix end whole) where
+    -- both sides of a whole list meet at the stop
+    pub spanned_end : end ≡ stop (marks_of low_flag (map verdict xs))
+    spanned_end = s.ends.at (omega arith) ∙ stop_in xs
+
+    pub spanned_prefix : built (take (stop (marks_of low_flag (map verdict xs))) xs) prefix
+    spanned_prefix = subst (λ ys. built ys prefix) (between_front xs end ∙ ap (λ k. take k xs) spanned_end) s.prefix_is
+
+    pub spanned_suffix : built (drop (stop (marks_of low_flag (map verdict xs))) xs) suffix
+    spanned_suffix = subst (λ ys. built ys suffix) (between_back xs end ∙ ap (λ k. drop k xs) spanned_end) s.suffix_is
 
   -- of the contrary test the stop is the length of the prefix that passes
   stops_at : (x : X) (xs : List X) (v : Verdict) → verdict x ≡ v → stop (marks_of low_flag (map (λ y. contrary (verdict y)) xs)) ≡ prefix_len (λ y. passes (verdict y)) xs →

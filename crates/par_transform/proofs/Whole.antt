@@ -1,6 +1,6 @@
 -- A run over a whole list: what is known of its part is what its call answers.
 use Rattle.std.proofs.Common.{◌≡◌, ℕ, ◌+◌, ◌-◌, ◌≤◌, min, Bool, true, false, List, [], ◌∷◌, length, map, take, drop, Result, Ok, Err, IfOk, refl, ap, sym, ◌∙◌, subst, arith}
-use Rattle.std.proofs.lemmas.List.{take_all}
+use Rattle.std.proofs.lemmas.List.{take_all, length-drop}
 use Rattle.par_laws.specs.declared.test.Verdict.{Verdict}
 use Rattle.par_laws.specs.declared.test.Verdict.TheVariants.{Pass, Fail, Fault}
 use Rattle.par_task.specs.declared.audit.Leaf.{Leaf}
@@ -30,6 +30,10 @@ never_marks false (x ∷ xs) = ap (λ l. false ∷ l) (never_marks false xs)
 -- all items from the first on, before an index
 pub between_front : {X : Type 0} (xs : List X) (m : ℕ) → between xs 0 m ≡ take m xs
 between_front xs m = let e : m - 0 ≡ m = omega arith in ap (λ k. take k xs) e
+
+-- all items from an index on
+pub between_back : {X : Type 0} (xs : List X) (m : ℕ) → between xs m (length xs) ≡ drop m xs
+between_back xs m = take_all (length xs - m) (drop m xs) (omega (arith, length-drop m xs))
 
 pub between_all : {X : Type 0} (xs : List X) → between xs 0 (length xs) ≡ xs
 between_all xs = between_front xs (length xs) ∙ take_all (length xs) xs (omega arith)
