@@ -33,7 +33,13 @@ pub fn map_alone<S: Precise, C: Combiner, G: Gate, F: Mapper<S::Item, C::Item>>(
 
 /// What `of` makes of each item with the item of `other` at the same index, up to the end of the shorter one. The audit is
 /// of the pairs. Scala: `zip`.
-pub fn zip_alone<S: Precise, C: Combiner, G: Gate, R: Precise, F: Mapper<(S::Item, R::Item), C::Item>>(
+pub fn zip_alone<
+    S: Precise,
+    C: Combiner,
+    G: Gate,
+    R: Precise,
+    F: Mapper<(S::Item, R::Item), C::Item>,
+>(
     alloc: Global,
     source: S,
     other: R,

@@ -89,13 +89,7 @@ pub fn drop_while_alone<
 }
 
 /// What `take_while_alone` and `drop_while_alone` make, in one run. Scala: `span`.
-pub fn span_alone<
-    S: Precise,
-    C: Combiner,
-    G: Gate,
-    P: Test<S::Item>,
-    F: Mapper<S::Item, C::Item>,
->(
+pub fn span_alone<S: Precise, C: Combiner, G: Gate, P: Test<S::Item>, F: Mapper<S::Item, C::Item>>(
     alloc: Global,
     source: S,
     test: &P,

@@ -14,10 +14,10 @@ returns g c =
     let named : c.place_of-from.result ≡ from = search rules in
     let counted : c.saturating_sub-count.result ≡ count = search rules in
     let rest_is : items rest ≡ drop from xs =
-        cut_rest xs (items before) (items rest) from c.cut_at-rest.ensures.parts.joined
-        (c.cut_at-rest.ensures.count ∙ ap (λ k. min k (length xs)) (c.as_count.ensures ∙ ap (λ k. min k 4294967295) named)) c.requires in
+    cut_rest xs (items before) (items rest) from c.cut_at-rest.ensures.parts.joined
+    (c.cut_at-rest.ensures.count ∙ ap (λ k. min k (length xs)) (c.as_count.ensures ∙ ap (λ k. min k 4294967295) named)) c.requires in
     let fewer : length (items rest) ≤ 4194304 = omega (arith, c.requires, ap length c.cut_at-rest.ensures.parts.joined, length-append (items before) (items rest)) in
     let part_is : items c.cut_at-part.result.0 ≡ take count (items rest) =
-        cut_front (items rest) (items c.cut_at-part.result.0) (items c.cut_at-part.result.1) count c.cut_at-part.ensures.parts.joined
-        (c.cut_at-part.ensures.count ∙ ap (λ k. min k (length (items rest))) (c.as_count-2.ensures ∙ ap (λ k. min k 4294967295) counted)) fewer in
+    cut_front (items rest) (items c.cut_at-part.result.0) (items c.cut_at-part.result.1) count c.cut_at-part.ensures.parts.joined
+    (c.cut_at-part.ensures.count ∙ ap (λ k. min k (length (items rest))) (c.as_count-2.ensures ∙ ap (λ k. min k 4294967295) counted)) fewer in
     subst (λ ys. IfOk c.made_of.result (λ out. g.C.Combiner.stands out (map (g.F.Mapper.mapped c.args.of.now) ys))) (part_is ∙ ap (take count) rest_is) c.made_of.ensures

@@ -19,8 +19,7 @@ returns-in_ok-result-in-None-clause-answer g c =
     (λ out. g.C.Combiner.stands out.0 (map made (lists.span (λ x. passes (verdict x)) items).0) × g.C.Combiner.stands out.1 (map made (lists.span (λ x. passes (verdict x)) items).1)) (before, after)
     (ap (fault_at (map (λ x. contrary (verdict x)) items)) (sym c.in_ok-parts.ensures.end)
     ∙ (ap (λ xs. fault_at (map (λ x. contrary (verdict x)) xs) end) (sym c.dup-again.ensures.items_same)
-    ∙ (sym c.fault_here.ensures ∙ c.in-None.is)))
-    (
+    ∙ (sym c.fault_here.ensures ∙ c.in-None.is))) (
       subst (λ n. g.C.Combiner.stands before (map made (take n items))) (contrary_stop verdict items) (c.in_ok-before-in-None.ensures _ c.in_ok-parts.ensures.prefix),
       subst (λ n. g.C.Combiner.stands after (map made (drop n items))) (contrary_stop verdict items) (c.in_ok-result-in-None.ensures _ c.in_ok-parts.ensures.suffix),
     )
