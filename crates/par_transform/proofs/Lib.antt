@@ -1,0 +1,5 @@
+pub mod Cutting
+pub mod Faults
+pub mod Items
+pub mod Stops
+pub mod Whole

@@ -1,0 +1,22 @@
+use Rattle.std.proofs.Common.{◌≡◌, List}
+use Rattle.par_task.specs.Marking.{no_flag}
+use Rattle.par_jobs.specs.Merges.{sifted_shown}
+use Rattle.par_transform.specs.Runs.{IsRunAlone}
+use Rattle.par_transform.specs.Sifting.{IsSiftedAll}
+use Rattle.par_transform.proofs.Faults.{sifted_all}
+use Rattle.par_transform.proofs.Whole.{ok_map, ran_alone, retold}
+use Rattle.par_transform.proofs.sifting.sift_alone.Goals as goal
+
+pub returns-clause-sifted : goal.returns-clause-sifted
+returns-clause-sifted g c =
+    let passing = g.A.Builder.built c.args.passing.now in
+    let failing = g.B.Builder.built c.args.failing.now in
+    retold g.S.Splitter.items c.over.result c.dup-split.result c.args.source c.args.test.now _ c.run_alone.result
+    (λ p xs a. IsSiftedAll (g.P.Test.verdict p) passing failing xs (sifted_shown g.A.Built.Shown.shown g.B.Built.Shown.shown a.0)) c.over.ensures c.dup-split.ensures.items_same
+    (ok_map c.run_alone.result _ _ (λ a good. sifted_all (g.P.Test.verdict c.over.result.inner) passing failing (g.S.Splitter.items c.over.result.split) _ good) c.run_alone.ensures.good)
+
+pub returns-clause-audit : goal.returns-clause-audit
+returns-clause-audit g c =
+    retold g.S.Splitter.items c.over.result c.dup-split.result c.args.source c.args.test.now _ c.run_alone.result
+    (λ p xs a. IsRunAlone no_flag (g.P.Test.verdict p) xs c.args.level a.1) c.over.ensures c.dup-split.ensures.items_same
+    (ran_alone no_flag _ _ c.args.level c.run_alone.result c.run_alone.ensures.audit c.run_alone.ensures.chain c.run_alone.ensures.tested)

@@ -1,0 +1,120 @@
+//! Calls that cut at the first item which doesn't pass.
+ghost use Rattle.std.specs.Prelude.{◌≡◌, ◌≤◌, length, map, take_while, IfOk};
+ghost use Rattle.par_laws.specs.Verdict.{contrary};
+ghost use Rattle.par_lists.specs.Cuts as lists;
+ghost use Rattle.par_task.specs.Marking.{low_flag, passes};
+ghost use Rattle.par_transform.specs.Faults.{IsTried, stop_fault};
+ghost use Rattle.par_transform.specs.Runs.{IsRunAlone};
+
+use crate::collecting::Collecting;
+use crate::fronting::front_alone;
+use crate::looking::fault_here;
+use crate::spanning::spanned_alone;
+use par_combiner::Combiner;
+use par_edge::Gate;
+use par_laws::{Mapper, Memory, Not, Shown, Test, Tried};
+use par_splitter::{Precise, Splitter};
+use par_task::Audit;
+use std::alloc::Global;
+use std::marker::PhantomData;
+
+/// What `of` makes of the items before the first one that doesn't pass, in order; or that one's fault, where it faults.
+/// No item after it is looked for. Scala: `takeWhile`.
+pub fn take_while_alone<
+    S: Precise,
+    C: Combiner,
+    G: Gate,
+    P: Test<S::Item>,
+    F: Mapper<S::Item, C::Item>,
+>(
+    alloc: Global,
+    source: S,
+    test: &P,
+    of: &F,
+    level: u32,
+    gate: &G,
+) -> Result<(Tried<C::Out>, Audit), Memory>
+    requires begins { S.lo source ≡ 0 }
+    requires small { length (S.items source) ≤ 4194304 }
+    requires level { (1 ≤ level) × (level ≤ 64) }
+    ensures answer { IfOk result (λ r. IsTried (stop_fault (map (λ x. contrary (P.verdict test.now x)) (S.items source))) (λ out. C.stands out (map (F.mapped of.now) (take_while (λ x. passes (P.verdict test.now x)) (S.items source)))) r.0) }
+    ensures audit { IfOk result (λ r. IsRunAlone low_flag (λ x. contrary (P.verdict test.now x)) (S.items source) level r.1) }
+{
+    let kept: Collecting<'_, F, C> = Collecting {
+        of,
+        out: PhantomData,
+    };
+    let fails = Not { inner: test };
+    let again = source.dup();
+    let (front, audit) = front_alone(alloc, source, &fails, &kept, level, gate)?;
+    match fault_here(again, &fails, front.end) {
+        None => Ok((Tried::Got(front.kept.result()?), audit)),
+        Some(fault) => Ok((Tried::Fault(fault), audit)),
+    }
+}
+
+/// What `of` makes of the items from the first one on that doesn't pass, in order; or that one's fault, where it faults.
+/// No item after it is tested. Scala: `dropWhile`.
+pub fn drop_while_alone<
+    S: Precise,
+    C: Combiner,
+    G: Gate,
+    P: Test<S::Item>,
+    F: Mapper<S::Item, C::Item>,
+>(
+    alloc: Global,
+    source: S,
+    test: &P,
+    of: &F,
+    level: u32,
+    gate: &G,
+) -> Result<(Tried<C::Out>, Audit), Memory>
+    requires begins { S.lo source ≡ 0 }
+    requires small { length (S.items source) ≤ 4194304 }
+    requires level { (1 ≤ level) × (level ≤ 64) }
+    ensures answer { IfOk result (λ r. IsTried (stop_fault (map (λ x. contrary (P.verdict test.now x)) (S.items source))) (λ out. C.stands out (map (F.mapped of.now) (lists.drop_while (λ x. passes (P.verdict test.now x)) (S.items source)))) r.0) }
+    ensures audit { IfOk result (λ r. IsRunAlone low_flag (λ x. contrary (P.verdict test.now x)) (S.items source) level r.1) }
+{
+    let kept: Collecting<'_, F, C> = Collecting {
+        of,
+        out: PhantomData,
+    };
+    let fails = Not { inner: test };
+    let again = source.dup();
+    let (parts, audit) = spanned_alone(alloc, source, &fails, &kept, level, gate)?;
+    match fault_here(again, &fails, parts.end) {
+        None => Ok((Tried::Got(parts.suffix.result()?), audit)),
+        Some(fault) => Ok((Tried::Fault(fault), audit)),
+    }
+}
+
+/// What `take_while_alone` and `drop_while_alone` make, in one run. Scala: `span`.
+pub fn span_alone<S: Precise, C: Combiner, G: Gate, P: Test<S::Item>, F: Mapper<S::Item, C::Item>>(
+    alloc: Global,
+    source: S,
+    test: &P,
+    of: &F,
+    level: u32,
+    gate: &G,
+) -> Result<(Tried<(C::Out, C::Out)>, Audit), Memory>
+    requires begins { S.lo source ≡ 0 }
+    requires small { length (S.items source) ≤ 4194304 }
+    requires level { (1 ≤ level) × (level ≤ 64) }
+    ensures answer { IfOk result (λ r. IsTried (stop_fault (map (λ x. contrary (P.verdict test.now x)) (S.items source))) (λ out. C.stands out.0 (map (F.mapped of.now) (lists.span (λ x. passes (P.verdict test.now x)) (S.items source)).0) × C.stands out.1 (map (F.mapped of.now) (lists.span (λ x. passes (P.verdict test.now x)) (S.items source)).1)) r.0) }
+    ensures audit { IfOk result (λ r. IsRunAlone low_flag (λ x. contrary (P.verdict test.now x)) (S.items source) level r.1) }
+{
+    let kept: Collecting<'_, F, C> = Collecting {
+        of,
+        out: PhantomData,
+    };
+    let fails = Not { inner: test };
+    let again = source.dup();
+    let (parts, audit) = spanned_alone(alloc, source, &fails, &kept, level, gate)?;
+    match fault_here(again, &fails, parts.end) {
+        None => {
+            let before = parts.prefix.result()?;
+            Ok((Tried::Got((before, parts.suffix.result()?)), audit))
+        }
+        Some(fault) => Ok((Tried::Fault(fault), audit)),
+    }
+}

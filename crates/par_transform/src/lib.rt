@@ -1,0 +1,42 @@
+//! Calls that make a collection of a collection: filters, maps, cuts and zips, each equal to the list function of its
+//! name.
+//!
+//! Each call takes a source that can be split, a mapper for what is made of an item, and a `Combiner` for what the items
+//! make. The `_alone` forms run on the caller's thread and tell of their leaves by an `Audit`. A call with a test answers
+//! `Tried`: where the test faults on an item that decides, the fault with its index and kind stands in the place of the
+//! answer.
+//!
+//! | Calls | Run |
+//! |---|---|
+//! | `map_alone`, `zip_alone`, `zip_with_index_alone`, `reverse_alone`, `flat_map_alone` | over all items, without a test |
+//! | `filter_alone`, `filter_not_alone`, `collect_alone`, `partition_alone` | tests every item |
+//! | `take_while_alone`, `drop_while_alone`, `span_alone` | ends at the first item that doesn't pass |
+//! | `take`, `drop`, `slice`, `split_at` | none: they cut, and copy |
+//!
+//! Contracts speak of the lists in `specs/` of `par_lists` and std. `Faults` says which fault is a call's, and `Runs` what
+//! an audit tells.
+#![tactic(auto)]
+
+mod choices;
+mod collecting;
+mod cuts;
+mod each;
+mod flat;
+mod flattening;
+mod fronting;
+mod fronts;
+mod gathering;
+mod looking;
+mod reversed;
+mod sifting;
+mod spanning;
+mod stop;
+#[cfg(test)]
+mod tests;
+
+pub use choices::{collect_alone, filter_alone, filter_not_alone, partition_alone};
+pub use cuts::{drop, slice, split_at, take};
+pub use each::{map_alone, reverse_alone, zip_alone, zip_with_index_alone};
+pub use flat::flat_map_alone;
+pub use fronts::{drop_while_alone, span_alone, take_while_alone};
+pub use stop::FlatStop;
