@@ -331,7 +331,10 @@ fn spans(rt: HostRuntime) -> Result<(), Fail> {
         let source = from_to(a, b).ok_or("few")?;
         let (part, _) = span(rt.alloc(), source, &Rule { least, faulty })?;
         assert_eq!(rt; (part.prefix.len(), part.suffix.len()), (before, after));
-        assert!(rt; part.end as usize == before && part.suffix.first().is_none_or(|x| *x == a + before as i64));
+        assert!(rt;
+            part.end as usize == before
+                && part.suffix.first().is_none_or(|x| *x == a + before as i64)
+        );
     }
     Ok(())
 }
@@ -478,6 +481,9 @@ fn a_leaf_breaks_off_where_another_seat_lowered_the_flag(rt: HostRuntime) -> Res
         faulty: 100,
     };
     let leaf = leaf_that_is_overtaken(rt.alloc(), &source, &rule, 1000, 100)?.ok_or("marked")?;
-    assert_eq!(rt; (leaf.lo, leaf.hi, leaf.flag, leaf.tested), (1000, 3000, 3000, 512));
+    assert_eq!(rt;
+        (leaf.lo, leaf.hi, leaf.flag, leaf.tested),
+        (1000, 3000, 3000, 512)
+    );
     Ok(())
 }

@@ -50,8 +50,8 @@ impl Signals {
         ensures new { IfOk result (λ s. s ≡ right_of seat.old) }
         ensures old { seat.new ≡ left_of seat.old }
     {
-        let seat = self.table.shared.split_seat::<Cut>(&mut seat.seat);
-        Ok(SignalSeat { seat })
+        let new = self.table.shared.split_seat::<Cut>(&mut seat.seat);
+        Ok(SignalSeat { seat: new })
     }
 
     /// Gives a seat up to another, which has then seen the lesser low, the greater high and the greater abort.

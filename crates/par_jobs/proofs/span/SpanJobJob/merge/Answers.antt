@@ -43,5 +43,5 @@ join-requires-3 g c =
       omega (arith, length-between source c.args.left.end c.requires.1, length-between source c.requires.1 c.requires.2, a.from, a.within, c.requires.4, c.requires.5, c.args.self.now.small),
       a.suffix_is,
       spanned_whole (g.B.Builder.built c.args.self.now.builder.now) (g.B.Builder.joined c.args.self.now.builder.now) (g.met.B.Builder.joins c.args.self.now.builder.now) source marks c.requires.0 c.requires.1 c.requires.2
-      (record { prefix = g.B.Built.Shown.shown c.args.right.prefix; suffix = g.B.Built.Shown.shown c.args.right.suffix; end = c.args.right.end; whole = c.args.right.whole }) _ c.requires.4 b c.in_ok-rest.ensures,
+          (record { prefix = g.B.Built.Shown.shown c.args.right.prefix; suffix = g.B.Built.Shown.shown c.args.right.suffix; end = c.args.right.end; whole = c.args.right.whole }) _ c.requires.4 b c.in_ok-rest.ensures,
     )))
