@@ -7,12 +7,10 @@ use std::alloc::Global;
 use std::collections::LinkedList;
 use std::marker::Model;
 
-/// How many items a chunk has at most. A longer one is no faster, and a shorter one costs more blocks.
-const CHUNK: usize = 4096;
-
 /// A list in chunks, to whose end items are pushed and other lists are joined. Contracts see the list.
 ///
-/// The first chunk grows from small, so that a short list is small. Each further one is reserved whole.
+/// A list that was never joined has one chunk, which grows as a vector does. So a list that is short is small, and one that
+/// was made in one part is a vector already.
 #[derive(Drop)]
 pub struct Chunks<T> {
     list: LinkedList<Vec<T>>,
@@ -57,10 +55,10 @@ impl<T: Drop> Chunks<T> {
         ensures items { self.new ≡ (if is_ok result then self.old ++ item ∷ [] else self.old) }
         ensures back { IfErr result (λ refused. refused.item ≡ item) }
     {
-        if has_room(&self.list) {
-            push_last(&mut self.list, item)?;
-        } else {
+        if self.list.is_empty() {
             push_chunk(&mut self.list, self.alloc, item)?;
+        } else {
+            push_last(&mut self.list, item)?;
         }
         self.count += 1;
         Ok(())
@@ -105,27 +103,14 @@ impl<T: Drop> Chunks<T> {
     }
 }
 
-// Whether the last chunk takes another item without a new one.
-fn has_room<T>(list: &LinkedList<Vec<T>>) -> bool
-    ensures { result ≡ true → 0 < length list.now }
-{
-    match list.back() {
-        Some(chunk) => chunk.len() < CHUNK,
-        None => false,
-    }
-}
-
-// Adds an item in a chunk of its own. The first one has little room yet.
+// Adds an item in a chunk of its own.
 fn push_chunk<T: Drop>(list: &mut LinkedList<Vec<T>>, alloc: Global, item: T) -> Result<(), Back<T>>
     ensures items { items_of list.new ≡ (if is_ok result then items_of list.old ++ item ∷ [] else items_of list.old) }
     ensures chunks { length list.new ≤ length list.old + 1 }
     ensures kept { IfErr result (λ _. list.new ≡ list.old) }
     ensures back { IfErr result (λ refused. refused.item ≡ item) }
 {
-    let room = if list.is_empty() { 0 } else { CHUNK };
-    let Ok(mut chunk) = Vec::with_capacity(alloc, room) else {
-        return Err(Back { item });
-    };
+    let mut chunk = Vec::new(alloc);
     chunk.push(item)?;
     let Err(refused) = list.push_back(chunk) else {
         return Ok(());

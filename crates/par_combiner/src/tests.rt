@@ -76,7 +76,7 @@ fn vectors(rt: HostRuntime) -> Result<(), Fail> {
 }
 
 #[test]
-fn arrays_of_several_chunks(rt: HostRuntime) -> Result<(), Fail> {
+fn arrays_of_thousands(rt: HostRuntime) -> Result<(), Fail> {
     let alloc = rt.alloc();
     let mut items: ArrayCombiner<u32> = ArrayCombiner::empty(alloc)?;
     for next in 0..9_000u32 {
