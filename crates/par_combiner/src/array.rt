@@ -47,6 +47,7 @@ impl<T: Shown + Drop> Combiner for ArrayCombiner<T> {
         })
     }
 
+    #[inline(always)]
     fn add(&mut self, item: T) -> Result<(), Back<T>> {
         self.chunks.push(item)
     }

@@ -1,6 +1,6 @@
 //! A list that is kept in pieces.
 ghost use Rattle.std.specs.Prelude.{◌≡◌, ◌+◌, ◌<◌, ◌≤◌, [], ◌∷◌, ◌++◌, length, is_ok, if◌then◌else◌, IfOk, IfErr, true};
-ghost use Rattle.par_combiner.specs.Chunks.{items_of};
+ghost use Rattle.par_combiner.specs.Chunks.{before_last, items_of};
 
 use par_laws::{Back, Memory};
 use std::alloc::Global;
@@ -14,19 +14,21 @@ use std::marker::Model;
 #[derive(Drop)]
 pub struct Chunks<T> {
     list: LinkedList<Vec<T>>,
-    count: u32,
+    // How many items stand before the last chunk, which knows its own length. So a push changes nothing here, and a loop that
+    // hands the list on from push to push waits for no store.
+    before: u32,
     alloc: Global,
 }
 
 impl<T> Model for Chunks<T> {
     ghost use Rattle.std.specs.Prelude.{List, length, ◌≡◌, ◌≤◌};
-    ghost use Rattle.par_combiner.specs.Chunks.{items_of};
+    ghost use Rattle.par_combiner.specs.Chunks.{before_last, items_of};
 
     ghost Value = { List T };
 
     ghost view = { λ c. items_of c.list };
 
-    ghost invariant = { λ c. (c.count ≡ length (items_of c.list)) × (length c.list ≤ c.count) × (c.count ≤ 4194304) };
+    ghost invariant = { λ c. (c.before ≡ before_last c.list) × (length c.list ≤ length (items_of c.list)) × (length (items_of c.list) ≤ 4194304) };
 }
 
 impl<T: Drop> Chunks<T> {
@@ -36,7 +38,7 @@ impl<T: Drop> Chunks<T> {
     {
         Chunks {
             list: LinkedList::new(alloc),
-            count: 0,
+            before: 0,
             alloc,
         }
     }
@@ -45,22 +47,25 @@ impl<T: Drop> Chunks<T> {
     pub fn len(&self) -> u32
         ensures { result ≡ length self.now }
     {
-        self.count
+        match self.list.back() {
+            Some(last) => self.before + last.len() as u32,
+            None => 0,
+        }
     }
 
     /// Adds an item at the end. For want of memory alone it hands the item back, and the list is as it was. Constant
     /// time, over many pushes.
+    #[inline(always)]
     pub fn push(&mut self, item: T) -> Result<(), Back<T>>
         requires { length self.old < 4194304 }
         ensures items { self.new ≡ (if is_ok result then self.old ++ item ∷ [] else self.old) }
         ensures back { IfErr result (λ refused. refused.item ≡ item) }
     {
         if self.list.is_empty() {
-            push_chunk(&mut self.list, self.alloc, item)?;
+            push_first(&mut self.list, self.alloc, item)?;
         } else {
             push_last(&mut self.list, item)?;
         }
-        self.count += 1;
         Ok(())
     }
 
@@ -69,8 +74,12 @@ impl<T: Drop> Chunks<T> {
         requires { length self.old + length other ≤ 4194304 }
         ensures { self.new ≡ self.old ++ other }
     {
+        if other.list.is_empty() {
+            return;
+        }
+        let before = self.len() + other.before;
         match self.list.append(&mut other.list) {
-            Ok(()) => self.count += other.count,
+            Ok(()) => self.before = before,
             Err(_) => unreachable!(),
         }
     }
@@ -79,9 +88,10 @@ impl<T: Drop> Chunks<T> {
     pub fn into_vec(self) -> Result<Vec<T>, Memory>
         ensures { IfOk result (λ v. v.items ≡ self) }
     {
+        let count = self.len();
         let Chunks {
             mut list,
-            count,
+            before: _,
             alloc,
         } = self;
         if list.len() == 1 {
@@ -103,11 +113,14 @@ impl<T: Drop> Chunks<T> {
     }
 }
 
-// Adds an item in a chunk of its own.
-fn push_chunk<T: Drop>(list: &mut LinkedList<Vec<T>>, alloc: Global, item: T) -> Result<(), Back<T>>
-    ensures items { items_of list.new ≡ (if is_ok result then items_of list.old ++ item ∷ [] else items_of list.old) }
-    ensures chunks { length list.new ≤ length list.old + 1 }
-    ensures kept { IfErr result (λ _. list.new ≡ list.old) }
+// Adds the first item, in the first chunk.
+#[inline(never)]
+fn push_first<T: Drop>(list: &mut LinkedList<Vec<T>>, alloc: Global, item: T) -> Result<(), Back<T>>
+    requires { list.old ≡ [] }
+    ensures items { items_of list.new ≡ (if is_ok result then item ∷ [] else []) }
+    ensures chunks { length list.new ≤ 1 }
+    ensures before { before_last list.new ≡ 0 }
+    ensures kept { IfErr result (λ _. list.new ≡ []) }
     ensures back { IfErr result (λ refused. refused.item ≡ item) }
 {
     let mut chunk = Vec::new(alloc);
@@ -127,6 +140,7 @@ fn push_last<T: Drop>(list: &mut LinkedList<Vec<T>>, item: T) -> Result<(), Back
     requires { 0 < length list.old }
     ensures items { items_of list.new ≡ (if is_ok result then items_of list.old ++ item ∷ [] else items_of list.old) }
     ensures chunks { length list.new ≡ length list.old }
+    ensures before { before_last list.new ≡ before_last list.old }
     ensures back { IfErr result (λ refused. refused.item ≡ item) }
 {
     match list.back_mut() {

@@ -50,6 +50,7 @@ impl<T: Shown + Drop> Combiner for VectorCombiner<T> {
         })
     }
 
+    #[inline(always)]
     fn add(&mut self, item: T) -> Result<(), Back<T>> {
         self.chunks.push(item)
     }

@@ -1,6 +1,6 @@
 use Rattle.std.proofs.Common.{rules, ◌≡◌, ◌++◌, ◌∷◌, [], append-nil, ◌∙◌, sym}
 use Rattle.std.specs.Prelude.{is_ok, if◌then◌else◌}
-use Rattle.par_combiner.proofs.Pieces.{last_more}
+use Rattle.par_combiner.proofs.Pieces.{last_before, last_more}
 use Rattle.par_combiner.specs.Chunks.{items_of}
 use Rattle.par_combiner.proofs.chunks.push_last.Goals as goal
 
@@ -12,3 +12,9 @@ returns-in-Err-clause-items g c =
 pub returns-in-Ok-clause-items : goal.returns-in-Ok-clause-items
 returns-in-Ok-clause-items g c =
     last_more c.in-Some.last.now c.push.new.self (c.args.item ∷ []) c.in-Ok.ensures.items c.args.list.now c.requires c.in-Some.ensures.value
+
+pub returns-in-Ok-clause-before : goal.returns-in-Ok-clause-before
+returns-in-Ok-clause-before g c = last_before c.args.list.now c.push.new.self c.requires
+
+pub returns-in-Err-clause-before : goal.returns-in-Err-clause-before
+returns-in-Err-clause-before g c = last_before c.args.list.now c.push.new.self c.requires
