@@ -1,5 +1,5 @@
 -- The first item that is marked, and the list functions that it decides.
-use Rattle.std.proofs.Common.{◌≡◌, ◌∙◌, ℕ, zero, suc, ◌+◌, ◌≤◌, ◌<◌, ◌⊎◌, inl, inr, min, List, [], ◌∷◌, ◌++◌, length, length-append, map, drop, get_or, Bool, true, false, cond, not, nat_lt, Option, Some, None, refl, ap, sym, subst, arith}
+use Rattle.std.proofs.Common.{◌≡◌, ◌∙◌, ℕ, zero, suc, ◌+◌, ◌≤◌, inl, inr, min, List, [], ◌∷◌, ◌++◌, length, map, drop, get_or, false, cond, not, nat_lt, Option, Some, None, refl, ap, sym, arith}
 use Rattle.std.specs.List.{prefix_len, position_or_len}
 use Rattle.std.proofs.lemmas.Bool.{cases_lt}
 use Rattle.std.proofs.lemmas.List.{length-map}
@@ -9,7 +9,6 @@ use Rattle.par_lists.specs.Cuts.{segment_length}
 use Rattle.par_laws.specs.declared.test.Verdict.{Verdict}
 use Rattle.par_laws.specs.declared.test.Verdict.TheVariants.{Pass, Fail, Fault}
 use Rattle.par_laws.specs.declared.tried.FaultAt.{FaultAt}
-use Rattle.par_laws.specs.declared.tried.Tried.{Tried}
 use Rattle.par_laws.specs.declared.tried.Tried.TheVariants.{Got}
 use Rattle.par_laws.specs.Marks.{stop}
 use Rattle.par_laws.specs.Verdict.{contrary}

@@ -1,5 +1,5 @@
 -- What a search found, and the list functions that it decides.
-use Rattle.std.proofs.Common.{◌≡◌, ◌∙◌, ℕ, zero, suc, ◌+◌, ◌≤◌, ◌<◌, ◌⊎◌, inl, inr, ◌||◌, ◌&&◌, List, [], ◌∷◌, length, map, get_or, Bool, true, false, not, cond, Option, Some, None, refl, ap, sym, subst, arith}
+use Rattle.std.proofs.Common.{◌≡◌, ◌∙◌, ℕ, zero, suc, inl, inr, ◌||◌, ◌&&◌, List, [], ◌∷◌, length, map, get_or, Bool, true, false, not, cond, Some, None, refl, ap, sym, subst, arith}
 use Rattle.std.specs.List.{list_any, list_all}
 use Rattle.std.proofs.lemmas.Bool.{cases_lt, false≢true}
 use Rattle.std.proofs.lemmas.List.{length-map}
@@ -7,11 +7,10 @@ use Rattle.std.proofs.Math.ListN.{get_or-map, get_or-eq_default}
 use Rattle.par_laws.specs.declared.test.Verdict.{Verdict}
 use Rattle.par_laws.specs.declared.test.Verdict.TheVariants as verdict
 use Rattle.par_laws.specs.declared.tried.FaultAt.{FaultAt}
-use Rattle.par_laws.specs.declared.tried.Tried.{Tried}
-use Rattle.par_laws.specs.declared.tried.Tried.TheVariants.{Got, Fault}
+use Rattle.par_laws.specs.declared.tried.Tried.TheVariants.{Got}
 use Rattle.par_laws.specs.Marks.{IsMarked, Clear, stop}
 use Rattle.par_laws.specs.Verdict.{contrary}
-use Rattle.par_task.specs.Marking.{abort_flag, marks_of, is_mark, passes}
+use Rattle.par_task.specs.Marking.{abort_flag, marks_of, passes}
 use Rattle.par_task.specs.Parts.{Sound, IsLeastFault}
 use Rattle.par_task.proofs.Stops.{stop_at}
 use Rattle.par_jobs.specs.declared.search.Sought.{Sought}

@@ -1,17 +1,17 @@
 -- A count of the items that pass.
-use Rattle.std.proofs.Common.{◌≡◌, ◌∙◌, ℕ, ◌-◌, List, take, length, map, refl, ap, sym, subst, arith}
+use Rattle.std.proofs.Common.{◌≡◌, ◌∙◌, ℕ, ◌-◌, List, take, length, map, ap, sym, subst, arith}
 use Rattle.std.specs.List.{filter, count_by}
 use Rattle.std.proofs.lemmas.List.{length-map, take_all}
 use Rattle.std.proofs.lemmas.List.Sums.{length-filter}
 use Rattle.par_laws.specs.declared.test.Verdict.{Verdict}
-use Rattle.par_laws.specs.declared.tried.Tried.TheVariants.{Got, Fault}
-use Rattle.par_task.specs.Marking.{no_flag, passes}
+use Rattle.par_laws.specs.declared.tried.Tried.TheVariants.{Got}
+use Rattle.par_task.specs.Marking.{passes}
 use Rattle.par_task.specs.Parts.{between, Sound}
 use Rattle.par_jobs.specs.Merges.{IsSiftedOf, sifted_shown}
 use Rattle.par_jobs.specs.declared.sift.Sifted.{Sifted}
 use Rattle.par_jobs.specs.declared.sift.Sifted.TheVariants as sifted
 use Rattle.par_jobs.specs.declared.stock.Nothing.{Nothing}
-use Rattle.par_access.specs.Faults.{least_fault, fault_of, tried}
+use Rattle.par_access.specs.Faults.{least_fault, tried}
 use Rattle.par_access.specs.Parts.{counted_by}
 use Rattle.par_access.proofs.Seeking.{least_is, no_least}
 

@@ -1,4 +1,4 @@
-use Rattle.std.proofs.Common.{◌≡◌, length, map, rules, sym, ◌∙◌}
+use Rattle.std.proofs.Common.{◌∙◌}
 use Rattle.par_task.specs.Marking.{no_flag}
 use Rattle.par_access.proofs.Ran.{ran}
 use Rattle.par_access.proofs.Tallies.{count_is}

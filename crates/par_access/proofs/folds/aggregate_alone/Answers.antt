@@ -1,4 +1,4 @@
-use Rattle.std.proofs.Common.{◌≡◌, length, map, rules, sym, ◌∙◌}
+use Rattle.std.proofs.Common.{sym, ◌∙◌}
 use Rattle.par_laws.specs.declared.test.Verdict.TheVariants.{Fail}
 use Rattle.par_task.specs.Marking.{no_test}
 use Rattle.par_access.proofs.Ran.{ran_ok, never_marks}

@@ -1,4 +1,3 @@
-use Rattle.std.proofs.Common.{◌≡◌, map, rules}
 use Rattle.std.specs.Int.{int_min}
 use Rattle.par_access.proofs.Reducing.{reduced_itself}
 use Rattle.par_access.proofs.folds.min_alone.Goals as goal

@@ -1,4 +1,3 @@
-use Rattle.std.proofs.Common.{◌≡◌, map, rules}
 use Rattle.std.specs.Option.{option_map}
 use Rattle.par_access.proofs.Reducing.{reduced_ok}
 use Rattle.par_access.proofs.folds.reduce_option_alone.Goals as goal

@@ -1,4 +1,4 @@
-use Rattle.std.proofs.Common.{◌≡◌, ℕ, ◌≤◌, min, length, map, rules, arith, ◌∙◌}
+use Rattle.std.proofs.Common.{◌≡◌, min, length, map, arith, ◌∙◌}
 use Rattle.std.proofs.lemmas.List.{length-map}
 use Rattle.par_laws.specs.Marks.{stop}
 use Rattle.par_task.specs.Marking.{low_flag, marks_of, is_mark}

@@ -1,4 +1,4 @@
-use Rattle.std.proofs.Common.{◌≡◌, FitsSigned, w64, ℕ, length, map, rules, ap, sym, ◌∙◌}
+use Rattle.std.proofs.Common.{◌≡◌, FitsSigned, w64, map, rules, ap, ◌∙◌}
 use Rattle.std.proofs.lemmas.Int.{to_z-of_z}
 use Rattle.par_lists.specs.Searches.{index_or_minus_one}
 use Rattle.par_laws.specs.Marks.{last}

@@ -1,10 +1,7 @@
-use Rattle.std.proofs.Common.{◌≡◌, ℕ, ◌+◌, min, length, map, drop, rules, ap, sym, ◌∙◌}
+use Rattle.std.proofs.Common.{◌≡◌, min, length, ap, ◌∙◌}
 use Rattle.std.proofs.Math.Facts.{to_z-of_z}
-use Rattle.par_laws.specs.Verdict.{contrary}
-use Rattle.par_laws.specs.Marks.{stop}
 use Rattle.par_lists.specs.Cuts.{place}
-use Rattle.par_task.specs.Marking.{low_flag, marks_of}
-use Rattle.par_access.specs.Faults.{fault_at, tried}
+use Rattle.par_access.specs.Faults.{tried}
 use Rattle.par_access.proofs.Firsts.{rest_is, segment_is}
 use Rattle.par_access.proofs.indexes.segment_length_alone.Goals as goal
 

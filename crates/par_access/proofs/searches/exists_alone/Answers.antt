@@ -1,4 +1,4 @@
-use Rattle.std.proofs.Common.{◌≡◌, map, rules, ◌∙◌}
+use Rattle.std.proofs.Common.{◌∙◌}
 use Rattle.par_access.proofs.Seeking.{exists_is}
 use Rattle.par_access.proofs.searches.exists_alone.Goals as goal
 

@@ -1,4 +1,4 @@
-use Rattle.std.proofs.Common.{◌≡◌, map, rules, ◌∙◌, sym, subst}
+use Rattle.std.proofs.Common.{map, sym, subst}
 use Rattle.par_access.specs.Found.{IsFound}
 use Rattle.par_access.proofs.Seeking.{found_is}
 use Rattle.par_access.proofs.searches.find_alone.Goals as goal

@@ -1,10 +1,6 @@
-use Rattle.std.proofs.Common.{◌≡◌, ◌≤◌, ◌+◌, ℕ, length, map, min, cond, nat_eq, rules, ap, sym, ◌∙◌, arith, length-append}
-use Rattle.std.specs.List.{zip}
-use Rattle.par_laws.specs.declared.tried.Tried.TheVariants.{Got}
-use Rattle.std.specs.Prelude.{false}
+use Rattle.std.proofs.Common.{length, ap, sym, ◌∙◌, arith, length-append}
 use Rattle.par_laws.specs.Verdict.{contrary}
 use Rattle.par_task.specs.Marking.{passes}
-use Rattle.par_access.specs.Pairs.{even_pairs}
 use Rattle.par_access.proofs.Paired.{paired_is, same_is, few_pairs}
 use Rattle.par_access.proofs.searches.same_elements_alone.Goals as goal
 
