@@ -1,7 +1,6 @@
 -- Lists in pieces.
-use Rattle.std.proofs.Common.{◌≡◌, ℕ, zero, suc, ◌+◌, ◌-◌, ◌<◌, List, [], ◌∷◌, ◌++◌, length, slice_set, slice_index_or, refl, ap, sym, ◌∙◌, arith, append_assoc, append-nil}
+use Rattle.std.proofs.Common.{◌≡◌, ℕ, zero, suc, ◌+◌, ◌-◌, ◌<◌, List, [], ◌∷◌, ◌++◌, length, slice_set, slice_index_or, ap, sym, ◌∙◌, arith, append_assoc, append-nil}
 use Rattle.std.specs.Global.{Vec}
-use Rattle.std.proofs.lemmas.List.Concat.{flat_map-cons}
 use Rattle.par_combiner.specs.Chunks.{items_of}
 
 module _ {T : Type 0} (last new : Vec T) (xs : List T) (more : new.items ≡ last.items ++ xs) where

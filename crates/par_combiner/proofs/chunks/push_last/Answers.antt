@@ -1,5 +1,4 @@
-use Rattle.std.proofs.Common.{rules, ◌≡◌, ◌++◌, ◌∷◌, [], append-nil, ◌∙◌, sym}
-use Rattle.std.specs.Prelude.{is_ok, if◌then◌else◌}
+use Rattle.std.proofs.Common.{rules, ◌≡◌, ◌∷◌, [], append-nil, ◌∙◌, sym}
 use Rattle.par_combiner.proofs.Pieces.{last_more}
 use Rattle.par_combiner.specs.Chunks.{items_of}
 use Rattle.par_combiner.proofs.chunks.push_last.Goals as goal
