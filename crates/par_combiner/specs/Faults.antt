@@ -1,7 +1,6 @@
 -- Faults: a combiner of items that may fault.
-use Rattle.std.proofs.Common.{◌≡◌, ℕ, ◌+◌, ◌<◌, min, List, [], ◌∷◌, ◌++◌, length, map, length-append, ap, sym, ◌∙◌, subst, arith, append_assoc}
+use Rattle.std.proofs.Common.{◌≡◌, ℕ, ◌+◌, ◌<◌, min, List, ◌∷◌, ◌++◌, length, map, length-append, ap, sym, ◌∙◌, subst, arith, append_assoc}
 use Rattle.std.proofs.lemmas.List.{map-append, length-map}
-use Rattle.par_laws.specs.declared.tried.FaultAt.{FaultAt}
 use Rattle.par_laws.specs.declared.guard.Made.{Made}
 use Rattle.par_laws.specs.declared.guard.Made.TheVariants as made
 use Rattle.par_combiner.specs.declared.faulted.Faulted.{Faulted}

@@ -112,6 +112,16 @@ fn chunks_as_a_list(rt: HostRuntime) -> Result<(), Fail> {
     Ok(())
 }
 
+/// Whether all values were made, or that fault.
+fn is_made(made: &Yield<Vec<i64>>, fault: Option<(u32, u8)>) -> bool {
+    match made {
+        Yield::All(values) => {
+            fault.is_none() && values.as_slice() == [1i64, 2, 3, 4, 5].as_slice()
+        }
+        Yield::Fault { at, kind } => fault == Some((*at, *kind)),
+    }
+}
+
 #[test]
 fn faults(rt: HostRuntime) -> Result<(), Fail> {
     let alloc = rt.alloc();
@@ -149,13 +159,7 @@ fn faults(rt: HostRuntime) -> Result<(), Fail> {
         let second = Vec::from_array(alloc, second)?;
         let third = vec![in alloc; third]?;
         let made = made_of::<Faulted<ArrayCombiner<i64>>>(alloc, first, second, third)?;
-        match (made.ok_or("short")?, fault) {
-            (Yield::All(values), None) => {
-                assert_eq!(rt; values.as_slice(), [1i64, 2, 3, 4, 5].as_slice());
-            }
-            (Yield::Fault { at, kind }, wanted) => assert_eq!(rt; Some((at, kind)), wanted),
-            (Yield::All(_), Some(_)) => assert!(rt; false),
-        }
+        assert!(rt; is_made(&made.ok_or("short")?, fault));
     }
     Ok(())
 }

@@ -1,5 +1,5 @@
 -- What a cut by a number of items leaves on each side.
-use Rattle.std.proofs.Common.{◌≡◌, ℕ, zero, suc, ◌+◌, ◌≤◌, ◌<◌, inl, inr, min, List, [], ◌∷◌, ◌++◌, length, take, drop, length-append, append-nil, refl, ap, sym, ◌∙◌, arith}
+use Rattle.std.proofs.Common.{◌≡◌, ℕ, ◌≤◌, ◌<◌, inl, inr, min, List, [], ◌∷◌, ◌++◌, length, take, drop, length-append, append-nil, refl, ap, sym, ◌∙◌, arith}
 use Rattle.std.proofs.lemmas.Bool.{cases_lt}
 use Rattle.std.proofs.lemmas.List.{take_all, drop_all}
 use Rattle.std.proofs.Math.Seq.{take-append_seam, drop-append_seam}

@@ -1,5 +1,5 @@
 -- Which fault is the least one, and what there is where none is.
-use Rattle.std.proofs.Common.{◌≡◌, ℕ, zero, suc, ◌+◌, ◌<◌, ◌≤◌, Bool, true, false, not, cond, List, [], ◌∷◌, length, map, Option, Some, None, slice_index_or, refl, ap, sym, ◌∙◌, subst, arith}
+use Rattle.std.proofs.Common.{◌≡◌, ℕ, zero, suc, ◌+◌, ◌<◌, not, cond, List, [], ◌∷◌, length, map, Option, Some, None, slice_index_or, refl, ap, sym, ◌∙◌, subst, arith}
 use Rattle.std.proofs.lemmas.List.{length-map}
 use Rattle.std.specs.List.{filter}
 use Rattle.par_lists.specs.Choices.{filter_not}
@@ -9,7 +9,7 @@ use Rattle.par_laws.specs.declared.test.Verdict.TheVariants.{Pass, Fail, Fault}
 use Rattle.par_laws.specs.declared.tried.FaultAt.{FaultAt}
 use Rattle.par_laws.specs.declared.tried.Tried.TheVariants as tried
 use Rattle.par_task.specs.Marking.{passes}
-use Rattle.par_task.specs.Parts.{between, Sound, IsLeastFault, IsSifted}
+use Rattle.par_task.specs.Parts.{Sound, IsLeastFault}
 use Rattle.par_jobs.specs.Steps.{fails}
 use Rattle.par_jobs.specs.Merges.{IsSiftedOf}
 use Rattle.par_jobs.specs.declared.sift.Sifted.{Sifted}

@@ -1,8 +1,7 @@
 -- A run over a whole list: what is known of its part is what its call answers.
-use Rattle.std.proofs.Common.{◌≡◌, ℕ, ◌+◌, ◌-◌, ◌≤◌, min, Bool, true, false, List, [], ◌∷◌, length, map, take, drop, Result, Ok, Err, IfOk, refl, ap, sym, ◌∙◌, subst, arith}
+use Rattle.std.proofs.Common.{◌≡◌, ℕ, ◌-◌, Bool, true, false, List, [], ◌∷◌, length, map, take, drop, Result, Ok, Err, IfOk, refl, ap, ◌∙◌, subst, arith}
 use Rattle.std.proofs.lemmas.List.{take_all, length-drop}
 use Rattle.par_laws.specs.declared.test.Verdict.{Verdict}
-use Rattle.par_laws.specs.declared.test.Verdict.TheVariants.{Pass, Fail, Fault}
 use Rattle.par_task.specs.declared.audit.Leaf.{Leaf}
 use Rattle.par_task.specs.Marking.{Kind, marks_of, is_mark, no_test}
 use Rattle.par_task.specs.MarkedBy.{MarkedBy, marks_by}

@@ -19,6 +19,8 @@ use std::marker::PhantomData;
 
 /// What `of` makes of the items that pass, in order; or the fault with the least index, where an item faults. Scala:
 /// `filter`.
+///
+/// Linear in the items; the one error is want of memory.
 pub fn filter_alone<
     S: Precise,
     C: Combiner,
@@ -52,6 +54,8 @@ pub fn filter_alone<
 
 /// What `of` makes of the items that don't pass, in order; or the fault with the least index, where an item faults.
 /// Scala: `filterNot`.
+///
+/// Linear in the items; the one error is want of memory.
 pub fn filter_not_alone<
     S: Precise,
     C: Combiner,
@@ -85,6 +89,8 @@ pub fn filter_not_alone<
 
 /// What `of` makes of the items that pass, in order; or the fault with the least index, where an item faults. Scala:
 /// `collect`.
+///
+/// Linear in the items; the one error is want of memory.
 pub fn collect_alone<
     S: Precise,
     C: Combiner,
@@ -110,6 +116,8 @@ pub fn collect_alone<
 
 /// What `of` makes of the items that pass, and of the others, each in order; or the fault with the least index, where an
 /// item faults. Scala: `partition`.
+///
+/// Linear in the items; the one error is want of memory.
 pub fn partition_alone<
     S: Precise,
     C: Combiner,

@@ -27,6 +27,8 @@ impl<'a, I: Shown, C: Combiner, F: Mapper<I, C::Item>> Builder<I> for Collecting
         C::empty(alloc)
     }
 
+    // Inlined, so that a leaf's loop holds the combiner in registers.
+    #[inline(always)]
     fn add(&self, alloc: Global, mut value: C, item: &I) -> Result<C, Memory> {
         let made = self.of.map(alloc, item)?;
         value.add(made)?;

@@ -33,6 +33,8 @@ fn made_of<S: Splitter, C: Combiner, F: Mapper<S::Item, C::Item>>(
 }
 
 /// What `of` makes of the first `n` items, or of all where there are fewer. A negative `n` takes nothing. Scala: `take`.
+///
+/// Linear in what is kept; the one error is want of memory.
 pub fn take<S: Precise, C: Combiner, F: Mapper<S::Item, C::Item>>(
     alloc: Global,
     source: S,
@@ -47,6 +49,8 @@ pub fn take<S: Precise, C: Combiner, F: Mapper<S::Item, C::Item>>(
 }
 
 /// What `of` makes of the items but the first `n`. A negative `n` drops nothing. Scala: `drop`.
+///
+/// Linear in what is kept; the one error is want of memory.
 pub fn drop<S: Precise, C: Combiner, F: Mapper<S::Item, C::Item>>(
     alloc: Global,
     source: S,
@@ -61,6 +65,8 @@ pub fn drop<S: Precise, C: Combiner, F: Mapper<S::Item, C::Item>>(
 }
 
 /// What `of` makes of the items from index `a` on and before index `b`. A negative index counts as 0. Scala: `slice`.
+///
+/// Linear in what is kept; the one error is want of memory.
 pub fn slice<S: Precise, C: Combiner, F: Mapper<S::Item, C::Item>>(
     alloc: Global,
     source: S,
@@ -79,6 +85,8 @@ pub fn slice<S: Precise, C: Combiner, F: Mapper<S::Item, C::Item>>(
 }
 
 /// What `take` and `drop` make, by the same `n`. Scala: `splitAt`.
+///
+/// Linear in what is kept; the one error is want of memory.
 pub fn split_at<S: Precise, C: Combiner, F: Mapper<S::Item, C::Item>>(
     alloc: Global,
     source: S,

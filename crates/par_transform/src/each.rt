@@ -15,6 +15,8 @@ use par_task::Audit;
 use std::alloc::Global;
 
 /// What `of` makes of each item, in order. Scala: `map`.
+///
+/// Linear in the items; the one error is want of memory.
 pub fn map_alone<S: Precise, C: Combiner, G: Gate, F: Mapper<S::Item, C::Item>>(
     alloc: Global,
     source: S,
@@ -33,6 +35,8 @@ pub fn map_alone<S: Precise, C: Combiner, G: Gate, F: Mapper<S::Item, C::Item>>(
 
 /// What `of` makes of each item with the item of `other` at the same index, up to the end of the shorter one. The audit is
 /// of the pairs. Scala: `zip`.
+///
+/// Linear in the items; the one error is want of memory.
 pub fn zip_alone<
     S: Precise,
     C: Combiner,
@@ -66,6 +70,8 @@ fn indexes_of(n: u32) -> RangeSplitter
 }
 
 /// What `of` makes of each item with its index, from 0 on. Scala: `zipWithIndex`.
+///
+/// Linear in the items; the one error is want of memory.
 pub fn zip_with_index_alone<S: Precise, C: Combiner, G: Gate, F: Mapper<(S::Item, i64), C::Item>>(
     alloc: Global,
     source: S,
@@ -84,6 +90,8 @@ pub fn zip_with_index_alone<S: Precise, C: Combiner, G: Gate, F: Mapper<(S::Item
 }
 
 /// What `of` makes of each item, the last one first. Scala: `reverse`.
+///
+/// Linear in the items; the one error is want of memory.
 pub fn reverse_alone<S: Precise, C: Combiner, G: Gate, F: Mapper<S::Item, C::Item>>(
     alloc: Global,
     source: S,

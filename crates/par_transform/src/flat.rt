@@ -18,6 +18,8 @@ use std::marker::PhantomData;
 
 /// The items of the lists that `of` makes of each item, in order. It stops by `TooMany` exactly where these are more than
 /// 4,194,304. Scala: `flatMap`.
+///
+/// Linear in the items and in those that are made; else it stops for want of memory alone.
 pub fn flat_map_alone<S: Precise, C: Combiner, G: Gate, F: Mapper<S::Item, Vec<C::Item>>>(
     alloc: Global,
     source: S,

@@ -20,6 +20,8 @@ use std::marker::PhantomData;
 
 /// What `of` makes of the items before the first one that doesn't pass, in order; or that one's fault, where it faults.
 /// No item after it is looked for. Scala: `takeWhile`.
+///
+/// Linear in the items; the one error is want of memory.
 pub fn take_while_alone<
     S: Precise,
     C: Combiner,
@@ -55,6 +57,8 @@ pub fn take_while_alone<
 
 /// What `of` makes of the items from the first one on that doesn't pass, in order; or that one's fault, where it faults.
 /// No item after it is tested. Scala: `dropWhile`.
+///
+/// Linear in the items; the one error is want of memory.
 pub fn drop_while_alone<
     S: Precise,
     C: Combiner,
@@ -89,6 +93,8 @@ pub fn drop_while_alone<
 }
 
 /// What `take_while_alone` and `drop_while_alone` make, in one run. Scala: `span`.
+///
+/// Linear in the items; the one error is want of memory.
 pub fn span_alone<S: Precise, C: Combiner, G: Gate, P: Test<S::Item>, F: Mapper<S::Item, C::Item>>(
     alloc: Global,
     source: S,

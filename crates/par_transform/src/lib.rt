@@ -6,6 +6,9 @@
 //! `Tried`: where the test faults on an item that decides, the fault with its index and kind stands in the place of the
 //! answer.
 //!
+//! A source begins at place 0 and has at most 4,194,304 items, and a level is 1 to 64. For want of memory nothing is left
+//! behind.
+//!
 //! | Calls | Run |
 //! |---|---|
 //! | `map_alone`, `zip_alone`, `zip_with_index_alone`, `reverse_alone`, `flat_map_alone` | over all items, without a test |

@@ -1,4 +1,4 @@
-use Rattle.std.proofs.Common.{◌≡◌, ℕ, ◌-◌, ◌≤◌, min, List, length, take, drop, map, slice_range, length-append, IfOk, ap, ◌∙◌, subst, arith, rules}
+use Rattle.std.proofs.Common.{◌≡◌, ℕ, ◌-◌, ◌≤◌, min, length, take, drop, map, length-append, IfOk, ap, ◌∙◌, subst, arith, rules}
 use Rattle.par_lists.specs.Cuts.{place}
 use Rattle.par_transform.proofs.Cutting.{cut_front, cut_rest}
 use Rattle.par_transform.proofs.cuts.slice.Goals as goal

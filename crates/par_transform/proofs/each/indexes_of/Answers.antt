@@ -1,4 +1,4 @@
-use Rattle.std.proofs.Common.{rules, ◌≡◌, ◌∙◌, sym, subst, pos, to_z, of_z, w64}
+use Rattle.std.proofs.Common.{rules, ◌≡◌, sym, subst, pos, to_z, of_z, w64}
 use Rattle.par_splitter.specs.Range.{IsRangeCount}
 use Rattle.par_transform.proofs.Items.{count_up, is_indexes}
 use Rattle.par_transform.proofs.each.indexes_of.Goals as goal

@@ -1,4 +1,4 @@
-use Rattle.std.proofs.Common.{◌≡◌, ◌∙◌, ap, length, reverse}
+use Rattle.std.proofs.Common.{◌∙◌, ap, length}
 use Rattle.std.proofs.lemmas.List.{length-reverse}
 use Rattle.par_transform.proofs.Items.{run_as}
 use Rattle.par_transform.proofs.Whole.{ok_map}

@@ -1,4 +1,4 @@
-use Rattle.std.proofs.Common.{◌≡◌, ◌≤◌, ap, length, IfOk, subst, arith}
+use Rattle.std.proofs.Common.{ap, length, IfOk, subst, arith}
 use Rattle.std.proofs.lemmas.Slice.Zip.{length-zip}
 use Rattle.par_task.specs.Marking.{no_test}
 use Rattle.par_transform.specs.Runs.{IsRunAlone, untested}

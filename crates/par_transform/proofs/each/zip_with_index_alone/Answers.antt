@@ -1,4 +1,4 @@
-use Rattle.std.proofs.Common.{◌≡◌, ◌∙◌, List, ap, length, map, IfOk, subst}
+use Rattle.std.proofs.Common.{◌∙◌, ap, map, IfOk, subst}
 use Rattle.std.specs.List.{zip}
 use Rattle.par_transform.specs.Indexes.{indexes}
 use Rattle.par_transform.proofs.Items.{length_pairs, run_as, zip_indexes}

@@ -1,4 +1,4 @@
-use Rattle.std.proofs.Common.{◌≡◌, List, ◌∙◌, ap, sym, subst, take, drop, map}
+use Rattle.std.proofs.Common.{◌∙◌, ap, sym, subst, take, drop, map}
 use Rattle.par_laws.specs.Verdict.{contrary}
 use Rattle.par_lists.specs.Cuts as lists
 use Rattle.par_task.specs.Marking.{passes}

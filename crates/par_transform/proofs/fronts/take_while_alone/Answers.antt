@@ -1,4 +1,4 @@
-use Rattle.std.proofs.Common.{◌≡◌, List, ◌∙◌, ap, sym, subst, take, take_while, map}
+use Rattle.std.proofs.Common.{◌∙◌, ap, sym, subst, take, take_while, map}
 use Rattle.par_task.specs.Marking.{passes}
 use Rattle.par_laws.specs.Verdict.{contrary}
 use Rattle.par_transform.specs.Faults.{fault_at, stop_fault}

@@ -1,4 +1,4 @@
-use Rattle.std.proofs.Common.{◌≡◌, ◌∙◌, List, IfOk, ap, sym, subst}
+use Rattle.std.proofs.Common.{◌∙◌, IfOk, ap, sym, subst}
 use Rattle.par_task.specs.Marking.{no_test}
 use Rattle.par_transform.specs.Runs.{IsRunAlone, untested}
 use Rattle.par_transform.proofs.Whole.{between_all, never_marks, ok_map, ran_alone}

@@ -1,4 +1,3 @@
-use Rattle.std.proofs.Common.{◌≡◌, List}
 use Rattle.par_task.specs.Marking.{no_flag}
 use Rattle.par_jobs.specs.Merges.{sifted_shown}
 use Rattle.par_transform.specs.Runs.{IsRunAlone}

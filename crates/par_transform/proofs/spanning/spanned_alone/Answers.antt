@@ -1,4 +1,4 @@
-use Rattle.std.proofs.Common.{◌≡◌, List, map, take, drop}
+use Rattle.std.proofs.Common.{◌≡◌, map, take, drop}
 use Rattle.par_laws.specs.Marks.{stop}
 use Rattle.par_task.specs.Marking.{low_flag, marks_of}
 use Rattle.par_transform.specs.Runs.{IsRunAlone}
