@@ -14,3 +14,6 @@ pub use group::GroupCombiner;
 pub use map::MapCombiner;
 pub use pairs::{BucketCombiner, PairList};
 pub use set::SetCombiner;
+
+#[cfg(test)]
+mod tests;
