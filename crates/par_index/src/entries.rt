@@ -186,9 +186,11 @@ impl<K: HashKey, V: Drop, I: Index> Entries<K, Vec<V>, I> {
         values.push_reserved(value);
         match self.push(key, values) {
             Ok(()) => Ok(()),
-            Err(Back {
-                item: (key, mut values),
-            }) => match values.pop() {
+            Err(
+                Back {
+                    item: (key, mut values),
+                },
+            ) => match values.pop() {
                 Some(value) => Err(Back { item: (key, value) }),
                 None => unreachable!(),
             },
