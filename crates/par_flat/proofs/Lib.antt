@@ -2,3 +2,6 @@ pub mod Walks
 pub mod Puts
 pub mod Doubling
 pub mod Members
+pub mod Blocks
+pub mod Unions
+pub mod Alike

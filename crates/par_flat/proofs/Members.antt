@@ -51,3 +51,11 @@ flip_not true true e = cc
 flip_not true false e = refl
 flip_not false true e = refl
 flip_not false false e = cc
+
+pub keys_of-append : {K V : Type 0} (es others : List (K × V)) → keys_of (es ++ others) ≡ keys_of es ++ keys_of others
+keys_of-append [] others = refl
+keys_of-append (e ∷ es) others = ap (λ ks. e.0 ∷ ks) (keys_of-append es others)
+
+pub insert_keys-append : {K : Type 0} (eq : K → K → Bool) (ks xs ys : List K) → insert_keys eq ks (xs ++ ys) ≡ insert_keys eq (insert_keys eq ks xs) ys
+insert_keys-append eq ks [] ys = refl
+insert_keys-append eq ks (x ∷ xs) ys = insert_keys-append eq (insert_key eq ks x) xs ys

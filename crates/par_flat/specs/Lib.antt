@@ -1,3 +1,4 @@
 pub mod Rooms
 pub mod Slots
 pub mod Keys
+pub mod Blocks

@@ -1,8 +1,13 @@
 ghost use Rattle.std.specs.Prelude.{◌≡◌, ℕ, ◌+◌, ◌<◌, ◌≤◌, ◌⊎◌, IfOk, IfErr, OnOk, OnErr, length, [], not, take, true};
 ghost use Rattle.std.specs.List.{IsDistinct, list_any};
+ghost use Rattle.par_index.specs.Entries.{joined};
 ghost use Rattle.par_flat.specs.Keys.{insert_key, insert_keys};
+ghost use Rattle.par_flat.specs.Rooms.{bucket_of_hash};
+ghost use Rattle.par_flat.specs.Blocks.{AreKeyBuckets};
 
+use crate::block::Block;
 use crate::bucket::room_for;
+use crate::keys::insert_all;
 use crate::splitter::FlatSplitter;
 use crate::table::Slots;
 use par_index::Entries;
@@ -80,10 +85,24 @@ impl<K: HashKey> FlatTable<K> {
         ensures ok { OnOk result (self.new ≡ insert_keys K.eq self.old keys.items) }
         ensures err { OnErr result ((n : ℕ) × (self.new ≡ insert_keys K.eq self.old (take n keys.items))) }
     {
-        for key in keys {
-            self.insert(key)?;
+        insert_all(&mut self.keys, keys)
+    }
+
+    /// The union of 32 blocks, of which block i has only keys of bucket i: the keys of the first, then of the second, and
+    /// so on, leftovers included. Keys move, and none is compared with another.
+    pub fn from_blocks(alloc: Global, blocks: Vec<Block<K>>) -> Result<FlatTable<K>, Memory>
+        requires count { length blocks.items ≡ 32 }
+        requires buckets { AreKeyBuckets (λ k. bucket_of_hash (K.hash (K.shown k))) blocks.items }
+        requires room { length (joined blocks.items) ≤ MAX_ITEMS }
+        ensures union { IfOk result (λ table. table ≡ joined blocks.items) }
+        ensures distinct { IfOk result (λ table. IsDistinct K.eq table) }
+    {
+        let slots = Slots::with_room(alloc, blocks[0].room())?;
+        let mut union = Entries::new(alloc, slots);
+        for block in blocks {
+            union.append(block.into_keys())?;
         }
-        Ok(())
+        Ok(FlatTable { keys: union })
     }
 }
 

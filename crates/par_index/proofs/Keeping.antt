@@ -1,16 +1,20 @@
 -- Lemmas on a map as the list of its entries.
-use Rattle.std.proofs.Common.{◌≡◌, ◌≢◌, ℕ, zero, suc, ◌+◌, ◌<◌, ◌≤◌, Bool, true, false, ◌||◌, ◌&&◌, true≢false, cond, List, [], ◌∷◌, ◌++◌, length, get_or, set, take, append_assoc, refl, ap, sym, ◌∙◌, arith, subst, ◌⊎◌, ⊎_elim, inl, inr, length-append, append-nil, eq-eqb}
+use Rattle.std.proofs.Common.{◌≡◌, ◌≢◌, ℕ, zero, suc, ◌+◌, ◌<◌, ◌≤◌, Bool, true, false, ◌||◌, ◌&&◌, true≢false, cond, List, [], ◌∷◌, ◌++◌, length, get_or, set, take, map, append_assoc, refl, ap, sym, ◌∙◌, arith, subst, ◌⊎◌, ⊎_elim, inl, inr, length-append, append-nil, eq-eqb}
 use Rattle.std.specs.Prelude.{Result, Ok, Err, OnErr, Option, Some, None, is_some, IsSome, IfSome, IfNone, ◌==◌, slice_get}
 use Rattle.std.specs.List.{IsDistinct, AllByRecursion, list_any}
 use Rattle.std.specs.Map.{lookup, set_value, keys_of, update}
+use Rattle.std.specs.Global.{Vec}
+use Rattle.std.specs.Option.{unwrap_or, option_map}
 use Rattle.std.specs.Cmp.{IsEquivalence}
 use Rattle.std.proofs.lemmas.Bool.{cases_eq}
 use Rattle.std.proofs.lemmas.Option.{slice_get_within}
 use Rattle.std.proofs.lemmas.List.{length-set}
 use Rattle.std.proofs.lemmas.Map.{keys-set_value, lookup-set_value}
 use Rattle.std.proofs.lemmas.Map.Keys.{IsDistinct-push}
+use Rattle.std.proofs.lemmas.Map.Made.{lookup-map_values}
+use Rattle.std.proofs.Math.Seq.{map-set_same}
 use Rattle.par_laws.specs.Hash.{mixed}
-use Rattle.par_index.specs.Entries.{insert_entry, is_key_at, joined, AreBuckets, IsApart, IsKept}
+use Rattle.par_index.specs.Entries.{groups_of, insert_entry, is_key_at, joined, push_to_group, AreBuckets, IsApart, IsKept}
 use Rattle.par_index.proofs.Places.{or_true, slice_get-left, slice_get-append, slice_get-last, slice_get-middle, slice_get-set_same, slice_get-set_other}
 
 not_so : (b : Bool) → (b ≡ true → b ≡ false) → b ≡ false
@@ -71,6 +75,43 @@ kept-none eq hash has count c = record { distinct = tt; placed = λ i e q. cc; c
 pub room_left : {V : Type 0} (n : ℕ) (r : Option V) → (n < 4194304) ⊎ IsSome r → r ≡ None → n < 4194304
 room_left n r (inl h) e = h
 room_left n r (inr s) e = absurd (true≢false (sym (subst IsSome e s)))
+
+still_some : {A B : Type 0} (f : A → B) (r : Option A) → is_some r ≡ is_some (option_map f r)
+still_some f None = refl
+still_some f (Some x) = refl
+
+module _ {K V : Type 0} where
+  groups_of-cond : (b : Bool) (es others : List (K × Vec V)) → groups_of (cond b es others) ≡ cond b (groups_of es) (groups_of others)
+  groups_of-cond true es others = refl
+  groups_of-cond false es others = refl
+
+  groups_of-set_value : (t : K → Bool) (es : List (K × Vec V)) (w : Vec V) → groups_of (set_value t es w) ≡ set_value t (groups_of es) w.items
+  groups_of-set_value t [] w = refl
+  groups_of-set_value t (e ∷ es) w =
+      groups_of-cond (t e.0) ((e.0, w) ∷ es) (e ∷ set_value t es w) ∙ ap (λ gs. cond (t e.0) ((e.0, w.items) ∷ groups_of es) ((e.0, e.1.items) ∷ gs)) (groups_of-set_value t es w)
+
+  groups_of-push : (es : List (K × Vec V)) (k : K) (w : Vec V) → groups_of (es ++ (k, w) ∷ []) ≡ groups_of es ++ (k, w.items) ∷ []
+  groups_of-push [] k w = refl
+  groups_of-push (e ∷ es) k w = ap (λ gs. (e.0, e.1.items) ∷ gs) (groups_of-push es k w)
+
+  groups_of-insert : (eq : K → K → Bool) (es : List (K × Vec V)) (k : K) (w : Vec V) → groups_of (insert_entry eq es k w) ≡ insert_entry eq (groups_of es) k w.items
+  groups_of-insert eq es k w =
+      let there : is_some (lookup (eq k) es) ≡ is_some (lookup (eq k) (groups_of es)) = still_some (λ (u : Vec V). u.items) (lookup (eq k) es) ∙ ap is_some (sym (lookup-map_values (λ (u : Vec V). u.items) (eq k) es)) in
+      groups_of-cond (is_some (lookup (eq k) es)) (set_value (eq k) es w) (es ++ (k, w) ∷ [])
+      ∙ (ap (λ gs. cond (is_some (lookup (eq k) es)) gs (groups_of (es ++ (k, w) ∷ []))) (groups_of-set_value (eq k) es w)
+      ∙ (ap (λ gs. cond (is_some (lookup (eq k) es)) (set_value (eq k) (groups_of es) w.items) gs) (groups_of-push es k w)
+      ∙ ap (λ b. cond b (set_value (eq k) (groups_of es) w.items) (groups_of es ++ (k, w.items) ∷ [])) there))
+
+  -- an insert of the key's vector with one more value
+  pub groups_of-pushed : (eq : K → K → Bool) (es : List (K × Vec V)) (k : K) (v : V) (w : Vec V) (r : Option (Vec V)) → lookup (eq k) es ≡ r → w.items ≡ unwrap_or (option_map (λ (u : Vec V). u.items) r) [] ++ v ∷ [] → groups_of (insert_entry eq es k w) ≡ push_to_group eq (groups_of es) k v
+  groups_of-pushed eq es k v w r h e =
+      groups_of-insert eq es k w ∙ ap (insert_entry eq (groups_of es) k) (e ∙ ap (λ o. unwrap_or o [] ++ v ∷ []) (sym (lookup-map_values (λ (u : Vec V). u.items) (eq k) es ∙ ap (option_map (λ (u : Vec V). u.items)) h)))
+
+  -- a vector of the same values in the place of one
+  pub groups_of-same : (es : List (K × Vec V)) (i : ℕ) (e : K × Vec V) (w : Vec V) → e ≡ get_or es i e → w.items ≡ e.1.items → groups_of (set es i (e.0, w)) ≡ groups_of es
+  groups_of-same es i e w g h =
+      let seen : (e.0, w.items) ≡ (e.0, e.1.items) = ap (λ vs. (e.0, vs)) h in
+      map-set_same (λ (x : K × Vec V). (x.0, x.1.items)) es i (e.0, w) e (seen ∙ ap (λ (x : K × Vec V). (x.0, x.1.items)) g)
 
 module _ {K V : Type 0} (eq : K → K → Bool) (o : IsEquivalence eq) where
   pub absent_place : (hash : K → ℕ) → ((x y : K) → eq x y ≡ true → hash x ≡ hash y) → (es : List (K × V)) (has : ℕ → ℕ → Bool) (count : ℕ) (key : K) (r : Option ℕ) → IsKept eq hash es has count → IfNone r ((at : ℕ) → has (mixed (hash key)) at ≡ true → is_key_at (eq key) (slice_get es at) ≡ false) → IfNone r (lookup (eq key) es ≡ None)

@@ -1,12 +1,22 @@
 -- A finite map as the list of its entries, in the order in which their keys came.
-use Rattle.std.specs.Prelude.{◌≡◌, ℕ, ◌≤◌, Bool, true, false, cond, List, [], ◌∷◌, ◌++◌, length, slice_get, Option, Some, None, is_some}
+use Rattle.std.specs.Prelude.{◌≡◌, ℕ, ◌≤◌, Bool, true, false, cond, List, [], ◌∷◌, ◌++◌, length, map, slice_get, Option, Some, None, is_some}
 use Rattle.std.specs.List.{IsDistinct}
 use Rattle.std.specs.Map.{lookup, set_value, keys_of}
+use Rattle.std.specs.Global.{Vec}
+use Rattle.std.specs.Option.{unwrap_or}
 use Rattle.par_laws.specs.Hash.{mixed}
 
 -- the entries with this value for this key: in the place of the old value, or at the end where the key is new
 abbrev pub insert_entry : {K V : Type 0} → (K → K → Bool) → List (K × V) → K → V → List (K × V)
 insert_entry eq es k v = cond (is_some (lookup (eq k) es)) (set_value (eq k) es v) (es ++ (k, v) ∷ [])
+
+-- the entries of vectors, each seen as the list of its values
+abbrev pub groups_of : {K V : Type 0} → List (K × Vec V) → List (K × List V)
+groups_of es = map (λ e. (e.0, e.1.items)) es
+
+-- the groups with one more value: at the end of the key's group, or alone in a group at the end where the key is new
+abbrev pub push_to_group : {K V : Type 0} → (K → K → Bool) → List (K × List V) → K → V → List (K × List V)
+push_to_group eq gs k v = insert_entry eq gs k (unwrap_or (lookup (eq k) gs) [] ++ v ∷ [])
 
 -- there is an entry, and its key passes
 abbrev pub is_key_at : {K V : Type 0} → (K → Bool) → Option (K × V) → Bool

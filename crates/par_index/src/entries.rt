@@ -2,7 +2,7 @@ ghost use Rattle.std.specs.Prelude.{◌≡◌, ℕ, ◌+◌, ◌<◌, ◌≤◌,
 ghost use Rattle.std.specs.List.{IsDistinct};
 ghost use Rattle.std.specs.Map.{lookup, keys_of, update};
 ghost use Rattle.std.specs.Option.{option_copied};
-ghost use Rattle.par_index.specs.Entries.{insert_entry, is_key_at, IsApart, IsKept};
+ghost use Rattle.par_index.specs.Entries.{groups_of, insert_entry, is_key_at, IsApart, IsKept, push_to_group};
 
 use crate::index::{Index, Wanted};
 use par_laws::{Back, HashKey, MAX_ITEMS, Memory, mix};
@@ -87,6 +87,13 @@ impl<K: HashKey, V, I: Index> Entries<K, V, I> {
         self.entries.as_slice()
     }
 
+    /// The index, which keeps the place of each entry under its hash. Constant time.
+    pub fn index(&self) -> &I
+        ensures { IsKept K.eq (λ k. K.hash (K.shown k)) self.now (I.has result.now) (I.count result.now) }
+    {
+        &self.index
+    }
+
     /// The value of a key; None exactly where the key isn't there. Takes no memory.
     pub fn get(&self, key: &K) -> Option<&V>
         ensures { option_copied result ≡ lookup (K.eq key.now) self.now }
@@ -151,6 +158,43 @@ impl<K: HashKey, V, I: Index> Entries<K, V, I> {
             self.push(key, value)?;
         }
         Ok(())
+    }
+}
+
+impl<K: HashKey, V: Drop, I: Index> Entries<K, Vec<V>, I> {
+    /// Adds a value at the end of the key's vector, which costs constant time beside finding it, over many calls. A new
+    /// key gets a vector of the value alone. For want of memory the pair comes back, and the vectors are as they were.
+    pub fn push_value(&mut self, alloc: Global, key: K, value: V) -> Result<(), Back<(K, V)>>
+        requires { (length self.old < MAX_ITEMS) ⊎ IsSome (lookup (K.eq key) self.old) }
+        ensures ok { OnOk result (groups_of self.new ≡ push_to_group K.eq (groups_of self.old) key value) }
+        ensures distinct { IsDistinct K.eq (keys_of self.new) }
+        ensures err { OnErr result (groups_of self.new ≡ groups_of self.old) }
+        ensures back { IfErr result (λ back. back.item ≡ (key, value)) }
+    {
+        if let Some(at) = place_of(self.entries.as_slice(), &self.index, &key) {
+            let entry = &mut self.entries[at as usize];
+            return match entry.1.push(value) {
+                Ok(()) => Ok(()),
+                Err(refused) => Err(Back {
+                    item: (key, refused.value),
+                }),
+            };
+        }
+        let Ok(mut values) = Vec::with_capacity(alloc, 1) else {
+            return Err(Back { item: (key, value) });
+        };
+        values.push_reserved(value);
+        match self.push(key, values) {
+            Ok(()) => Ok(()),
+            Err(
+                Back {
+                    item: (key, mut values),
+                },
+            ) => match values.pop() {
+                Some(value) => Err(Back { item: (key, value) }),
+                None => unreachable!(),
+            },
+        }
     }
 }
 

@@ -23,7 +23,7 @@ fn put(trie: &mut HashTrie<i64, u64>, key: i64, value: u64) -> Option<Option<u64
 
 /// Keys of spread hashes, of one hash, and of seven.
 fn key_of(kind: u64, i: u64) -> i64 {
-    let i = (i % 400) as i64;
+    let i = (i % 1000) as i64;
     match kind {
         0 => i.wrapping_mul(0x9E37_79B9),
         1 => i.wrapping_mul(ALIKE),
@@ -62,7 +62,7 @@ fn beside_a_plain_map(rt: HostRuntime) -> Result<(), Fail> {
         let mut trie = HashTrie::new(rt.alloc());
         let mut plain = BTreeMap::new(rt.alloc());
         let mut random = 1u64;
-        for i in 0..600 {
+        for i in 0..2000 {
             random = random
                 .wrapping_mul(6364136223846793005)
                 .wrapping_add(1442695040888963407);
@@ -71,7 +71,7 @@ fn beside_a_plain_map(rt: HostRuntime) -> Result<(), Fail> {
             assert_eq!(rt; put(&mut trie, key, i), Some(old), "{kind} {i}");
         }
         assert_eq!(rt; trie.len() as usize, plain.len(), "{kind}");
-        for i in 0..400 {
+        for i in 0..1000 {
             let key = key_of(kind, i);
             assert_eq!(rt; trie.get(&key), plain.get(&key), "{kind} {i}");
         }
@@ -100,5 +100,23 @@ fn unites_buckets(rt: HostRuntime) -> Result<(), Fail> {
     assert_eq!(rt; trie.len(), 2);
     assert_eq!(rt; trie.get(&0), Some(&10));
     assert_eq!(rt; trie.get(&ALIKE), Some(&20));
+    Ok(())
+}
+
+#[test]
+fn values_of_a_key(rt: HostRuntime) -> Result<(), Fail> {
+    let mut trie = HashTrie::new(rt.alloc());
+    for (key, value) in [(0, 1u64), (ALIKE, 2), (0, 3)] {
+        if trie.len() < MAX_ITEMS {
+            trie.push_value(rt.alloc(), key, value)?;
+        }
+    }
+    assert_eq!(rt; trie.len(), 2);
+    for (key, values) in [(0i64, &[1u64, 3] as &[u64]), (ALIKE, &[2])] {
+        match trie.get(&key) {
+            Some(found) => assert_eq!(rt; found.as_slice(), values, "{key}"),
+            None => assert!(rt; false, "{key}"),
+        }
+    }
     Ok(())
 }

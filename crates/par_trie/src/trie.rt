@@ -2,7 +2,7 @@ ghost use Rattle.std.specs.Prelude.{◌≡◌, ℕ, ◌+◌, ◌<◌, ◌≤◌,
 ghost use Rattle.std.specs.List.{IsDistinct};
 ghost use Rattle.std.specs.Map.{lookup, keys_of, update};
 ghost use Rattle.std.specs.Option.{option_copied};
-ghost use Rattle.par_index.specs.Entries.{insert_entry, joined, AreBuckets};
+ghost use Rattle.par_index.specs.Entries.{groups_of, insert_entry, joined, push_to_group, AreBuckets};
 ghost use Rattle.par_trie.specs.Buckets.{bucket_of_hash};
 
 use crate::level::{Levels, Root};
@@ -69,6 +69,7 @@ impl<K: HashKey, V> HashTrie<K, V> {
     {
         self.entries.insert(key, value)
     }
+
     /// The union of 32 maps, of which map i has only keys of bucket i: the entries of the first, then of the second, and
     /// so on. Entries move, and no key is looked for.
     pub fn from_buckets(alloc: Global, subs: Vec<HashTrie<K, V>>) -> Result<HashTrie<K, V>, Memory>
@@ -86,6 +87,20 @@ impl<K: HashKey, V> HashTrie<K, V> {
             union.append(entries)?;
         }
         Ok(HashTrie { entries: union })
+    }
+}
+
+impl<K: HashKey, V: Drop> HashTrie<K, Vec<V>> {
+    /// Adds a value at the end of the key's vector, which costs constant time beside finding it, over many calls. A new
+    /// key gets a vector of the value alone. For want of memory the pair comes back, and the vectors are as they were.
+    pub fn push_value(&mut self, alloc: Global, key: K, value: V) -> Result<(), Back<(K, V)>>
+        requires { (length self.old < MAX_ITEMS) ⊎ IsSome (lookup (K.eq key) self.old) }
+        ensures groups { OnOk result (groups_of self.new ≡ push_to_group K.eq (groups_of self.old) key value) }
+        ensures distinct { IsDistinct K.eq (keys_of self.new) }
+        ensures err { OnErr result (groups_of self.new ≡ groups_of self.old) }
+        ensures back { IfErr result (λ back. back.item ≡ (key, value)) }
+    {
+        self.entries.push_value(alloc, key, value)
     }
 }
 
