@@ -1,36 +1,33 @@
 -- A step that changes the cell of its own node alone, and keeps its owner and span.
-use Rattle.std.proofs.Common.{◌≡◌, ◌≢◌, ℕ, suc, ◌<◌, ◌≤◌, List, length, set, sym, refl, ap, ◌∙◌, subst, arith, Bool, true, false, cond, eqb, eq-eqb, ne_eqb, true≢false}
+use Rattle.std.proofs.Common.{◌≡◌, ◌≢◌, ℕ, suc, ◌<◌, ◌≤◌, List, ◌∷◌, length, set, sym, refl, ap, ◌∙◌, subst, arith, Bool, true, false, cond, eqb, eq-eqb, ne_eqb, true≢false}
 use mathlib.Core.Option.{some, none}
 use mathlib.Core.Option as maybe
 use lib.ListN.{get_elem?}
 use Rattle.std.specs.Prelude.{Option, slice_index}
 use Rattle.atomic_table.specs.Table.{State}
-use Rattle.par_board.specs.declared.view.View.{View}
-use Rattle.par_board.specs.declared.view.Part.{Part}
-use Rattle.par_board.specs.declared.view.Part.TheVariants as part
-use Rattle.par_board.specs.declared.view.Grip.{Grip}
-use Rattle.par_board.specs.declared.view.Grip.TheVariants.{Loose}
-use Rattle.par_board.specs.declared.view.NodeState.{NodeState}
+use Rattle.par_board.specs.Seen.{Flight, settled, offering, collecting, Owned, not_owned, owned_free, owned_open, owned_merged, Held, not_held, held_over, Kind, step_fill, step_offer, step_claim, step_finish, step_take, step_close, step_load, Note, Sight, owns_at, holds_at, all_parts}
+use Rattle.par_board.specs.declared.answers.NodeState.{NodeState}
 use Rattle.par_board.specs.Words.{code}
 use Rattle.par_board.specs.Tree.{below}
-use Rattle.par_board.specs.Rule.{Plain, Cell, hidden, face, hides, owns_of, holds_of, home_of, owns_at, holds_at, Lives, Later, Kept}
+use Rattle.par_board.specs.Rule.{Plain, Cell, hidden, face, hides, owns_of, holds_of, home_of, Lives, Later, Kept, Known}
 use Rattle.par_board.specs.Plays.{own, grip}
-use Rattle.par_board.proofs.Cells.{put, at_put, put_here, Moves, moved}
-use Rattle.par_board.proofs.Changes.{shown}
+use Rattle.par_board.specs.Calls.{noted, looks, merge, fresh, left_of, right_of, joined}
+use Rattle.par_views.proofs.Puts.{put, at_put}
+use Rattle.par_board.proofs.Cells.{Moves, moved}
 use Rattle.par_board.proofs.Tables.{at_table, not_below}
 
 -- one entry of a table changed
-pub own_here : {J : Type 0} (k : ℕ) (p : Part) (v : View J) → k < 2048 → owns_at (own k p v) k ≡ p
-own_here k p v near = at_table (λ (m : ℕ). cond (eqb m k) p (owns_at v m)) k part.Not near ∙ ap (λ (b : Bool). cond b p (owns_at v k)) (eq-eqb k k refl)
+pub own_here : {J : Type 0} (k : ℕ) (p : Owned) (v : Known J) → k < 2048 → owns_at (own k p v) k ≡ p
+own_here k p v near = at_table (λ (m : ℕ). cond (eqb m k) p (owns_at v m)) k not_owned near ∙ ap (λ (b : Bool). cond b p (owns_at v k)) (eq-eqb k k refl)
 
-pub own_else : {J : Type 0} (k : ℕ) (p : Part) (v : View J) (m : ℕ) → m < 2048 → m ≢ k → owns_at (own k p v) m ≡ owns_at v m
-own_else k p v m near ne = at_table (λ (q : ℕ). cond (eqb q k) p (owns_at v q)) m part.Not near ∙ ap (λ (b : Bool). cond b p (owns_at v m)) (ne_eqb m k ne)
+pub own_else : {J : Type 0} (k : ℕ) (p : Owned) (v : Known J) (m : ℕ) → m < 2048 → m ≢ k → owns_at (own k p v) m ≡ owns_at v m
+own_else k p v m near ne = at_table (λ (q : ℕ). cond (eqb q k) p (owns_at v q)) m not_owned near ∙ ap (λ (b : Bool). cond b p (owns_at v m)) (ne_eqb m k ne)
 
-pub grip_here : {J : Type 0} (k : ℕ) (g : Grip) (v : View J) → k < 2048 → holds_at (grip k g v) k ≡ g
-grip_here k g v near = at_table (λ (m : ℕ). cond (eqb m k) g (holds_at v m)) k Loose near ∙ ap (λ (b : Bool). cond b g (holds_at v k)) (eq-eqb k k refl)
+pub grip_here : {J : Type 0} (k : ℕ) (g : Held) (v : Known J) → k < 2048 → holds_at (grip k g v) k ≡ g
+grip_here k g v near = at_table (λ (m : ℕ). cond (eqb m k) g (holds_at v m)) k not_held near ∙ ap (λ (b : Bool). cond b g (holds_at v k)) (eq-eqb k k refl)
 
-pub grip_else : {J : Type 0} (k : ℕ) (g : Grip) (v : View J) (m : ℕ) → m < 2048 → m ≢ k → holds_at (grip k g v) m ≡ holds_at v m
-grip_else k g v m near ne = at_table (λ (q : ℕ). cond (eqb q k) g (holds_at v q)) m Loose near ∙ ap (λ (b : Bool). cond b g (holds_at v m)) (ne_eqb m k ne)
+pub grip_else : {J : Type 0} (k : ℕ) (g : Held) (v : Known J) (m : ℕ) → m < 2048 → m ≢ k → holds_at (grip k g v) m ≡ holds_at v m
+grip_else k g v m near ne = at_table (λ (q : ℕ). cond (eqb q k) g (holds_at v q)) m not_held near ∙ ap (λ (b : Bool). cond b g (holds_at v m)) (ne_eqb m k ne)
 
 nowhere : ℕ → Bool
 nowhere m = false
@@ -39,7 +36,7 @@ nowhere_is : (m : ℕ) → nowhere m ≡ true → ⊥
 unfolding nowhere
 nowhere_is m e = true≢false (sym e)
 
-module _ {J : Type 0} (job : Option J) (n : ℕ) (s : State (Option (Plain J)) (View J)) (r : Kept job n s) (id k : ℕ) (v : View J) (st : NodeState) (holder : ℕ) (out : Bool) (homes' : List (maybe.Option (Option (Plain J)))) (w : View J) where
+module _ {J : Type 0} (job : Option J) (n : ℕ) (s : State (Option (Plain J)) (Known J)) (r : Kept job n s) (id k : ℕ) (v : Known J) (st : NodeState) (holder : ℕ) (out : Bool) (homes' : List (maybe.Option (Option (Plain J)))) (w : Known J) where
   abbrev pub after : Cell
   after = record { state = st; owner = (r.cells k).owner; holder = holder; out = out; lo = (r.cells k).lo; hi = (r.cells k).hi; cover = (r.cells k).cover }
 
@@ -58,20 +55,21 @@ module _ {J : Type 0} (job : Option J) (n : ℕ) (s : State (Option (Plain J)) (
     pub held : code st ≡ 3 → holder ≢ 0
     pub holder_lives : (j : ℕ) → holder ≡ suc j → Lives s.views j
     pub others : (j : ℕ) → j ≢ id → (owns_of j after ≡ owns_of j (r.cells k)) × (holds_of j after ≡ holds_of j (r.cells k))
-    pub same : (w.job ≡ v.job) × (w.n ≡ v.n)
+    pub same : (w.of ≡ v.of) × (w.parts ≡ v.parts)
+    pub notes : (kind : Kind) × (w.notes ≡ record { kind = kind; node = k; read = slice_index s.words k } ∷ v.notes)
     pub owns_here : owns_at w k ≡ owns_of id after
     pub owns_else : (m : ℕ) → m < 2048 → m ≢ k → owns_at w m ≡ owns_at v m
     pub holds_here : holds_at w k ≡ holds_of id after
     pub holds_else : (m : ℕ) → m < 2048 → m ≢ k → holds_at w m ≡ holds_at v m
-    pub word_is : w.word ≡ k
-    pub read_is : w.read ≡ slice_index s.words k
 
-  alone_moves : Alone → Moves job n s r id k after nowhere (hidden 0) (face after) homes' w
-  alone_moves t = let c : Cell = r.cells k in let ok = r.each_cell k t.near in let o = r.each_view id v t.at t.live.0 in let sh = shown job n s r k t.near in let up = t.grows in let past = t.had_some in
+  alone_moves : Alone → Moves job n s r id k after nowhere (hidden 0) (face after) homes' v w
+  alone_moves t = let ok = r.each_cell k t.near in let o = r.each_view id v t.at t.live.0 in let up = t.grows in let past = t.had_some in
       let now_some : code st ≢ 0 = (λ e. past (omega arith)) in let cells' : ℕ → Cell = put k after nowhere (hidden 0) r.cells in record {
         near = t.near;
-        lives = (v, t.at, t.live.0);
-        live = t.live.1;
+        at = t.at;
+        live = t.live;
+        same = t.same;
+        notes = t.notes;
         long = t.long;
         shows = refl;
         lies = t.lies;
@@ -87,20 +85,11 @@ module _ {J : Type 0} (job : Option J) (n : ℕ) (s : State (Option (Plain J)) (
         area_is = (refl, refl, refl, refl);
         area_owner = λ j e. absurd (omega arith);
         grows = up;
-        same = λ _. (refl, refl);
+        span_same = λ _. (refl, refl);
         others = t.others;
         area_others = λ j m _ _ e. absurd (nowhere_is m e);
-        mine = record {
-          job_is = t.same.0 ∙ o.job_is;
-          n_is = t.same.1 ∙ o.n_is;
-          owns = λ m h. at_put k after nowhere (hidden 0) r.cells (λ q y. q < 2048 → owns_at w q ≡ owns_of id y) m (λ _. t.owns_here) (λ _ e _. absurd (nowhere_is m e)) (λ ne _ g. t.owns_else m g ne ∙ o.owns m g) h;
-          holds = λ m h. at_put k after nowhere (hidden 0) r.cells (λ q y. q < 2048 → holds_at w q ≡ holds_of id y) m (λ _. t.holds_here) (λ _ e _. absurd (nowhere_is m e)) (λ ne _ g. t.holds_else m g ne ∙ o.holds m g) h;
-          noted = (
-            subst (λ (q : ℕ). q < 2048) (sym t.word_is) t.near,
-            subst (λ (z : ℕ × ℕ). Later z.0 (cells' z.1)) (λ i. (sym t.read_is i, sym t.word_is i))
-                (subst (Later (slice_index s.words k)) (sym (put_here k after nowhere (hidden 0) r.cells)) (λ _. let z = sh.0 in (sh.1, sh.2, omega arith))),
-          );
-        };
+        owns = λ m h. at_put k after nowhere (hidden 0) r.cells (λ q y. q < 2048 → owns_at w q ≡ owns_of id y) m (λ _. t.owns_here) (λ _ e _. absurd (nowhere_is m e)) (λ ne _ g. t.owns_else m g ne ∙ o.owns m g) h;
+        holds = λ m h. at_put k after nowhere (hidden 0) r.cells (λ q y. q < 2048 → holds_at w q ≡ holds_of id y) m (λ _. t.holds_here) (λ _ e _. absurd (nowhere_is m e)) (λ ne _ g. t.holds_else m g ne ∙ o.holds m g) h;
         covers = λ a m ha hm hiding is_below. at_put k after nowhere (hidden 0) r.cells (λ q y. hides y.state ≡ true → q ≡ a → cells' m ≡ hidden a) a
             (λ e same_node. let was = r.covers k m t.near hm (sym t.hiding ∙ e) (subst (λ (q : ℕ). below q m ≡ true) (sym same_node) is_below) in
             at_put k after nowhere (hidden 0) r.cells (λ q y. q ≡ m → y ≡ hidden a) m
@@ -121,4 +110,4 @@ module _ {J : Type 0} (job : Option J) (n : ℕ) (s : State (Option (Plain J)) (
       }
 
   pub alone : Alone → Kept job n record { words = set s.words k (face after); homes = homes'; views = set s.views id w }
-  alone t = moved job n s r id k after nowhere (hidden 0) (face after) homes' w (alone_moves t)
+  alone t = moved job n s r id k after nowhere (hidden 0) (face after) homes' v w (alone_moves t)

@@ -1,8 +1,8 @@
--- The trees of nodes that a chain opens.
+-- What the tree of nodes is like.
 use Rattle.std.proofs.Common.{◌+◌, ◌≡◌, ◌≢◌, ℕ, zero, suc, ◌*◌, ◌/◌, ◌<◌, sym, refl, ap, ◌∙◌, subst, arith, Bool, true, false, ◌||◌, eqb, eq-eqb, ne_eqb, true≢false}
 use mathlib.Core.Logic.{dite}
 use native.Mathlib.Decide.{ℕ_discrete}
-use Rattle.par_board.specs.Tree.{under, below}
+use Rattle.par_board.specs.Tree.{under, below, TreeLaws}
 use Rattle.par_board.proofs.Tables.{under_less}
 
 -- one step of the search for an ancestor
@@ -36,6 +36,11 @@ under_enough zero k m pos small e = under_cases zero k m (under zero k m ≡ tru
 under_enough (suc fuel) k m pos small e = under_cases (suc fuel) k m (under (suc fuel) k m ≡ true) e (λ here. under_here fuel k m here)
     (λ there. under_there fuel k m (under_enough fuel k (m / 2) pos (let p : ℕ = twice fuel in let s : m < 2 * p = small in let q : m / 2 < p = omega arith in q) there))
 
+-- no sibling is below the other
+sibling : (f a b : ℕ) → a ≢ b → a / 2 ≡ b / 2 → 0 < a → under f a b ≡ true → ⊥
+sibling zero a b ne same pa e = true≢false (sym e)
+sibling (suc f) a b ne same pa e = under_cases f a b ⊥ e (λ here. omega arith) (λ there. true≢false (sym there ∙ under_less f a (b / 2) pa (omega arith)))
+
 -- siblings have nothing below in common
 under_apart : (f g a b m : ℕ) → a ≢ b → a / 2 ≡ b / 2 → 0 < a → 0 < b → under f a m ≡ true → under g b m ≡ true → ⊥
 under_apart zero g a b m ne same pa pb e e' = true≢false (sym e)
@@ -43,11 +48,10 @@ under_apart (suc f) zero a b m ne same pa pb e e' = true≢false (sym e')
 under_apart (suc f) (suc g) a b m ne same pa pb e e' = under_cases f a m ⊥ e
     (λ here. under_cases g b m ⊥ e' (λ here'. ne (sym here ∙ here')) (λ there'. sibling g b a (λ z. ne (sym z)) (sym same) pb (subst (λ x. under g b x ≡ true) here there')))
     (λ there. under_cases g b m ⊥ e' (λ here'. sibling f a b ne same pa (subst (λ x. under f a x ≡ true) here' there)) (λ there'. under_apart f g a b (m / 2) ne same pa pb there there'))
-  where
-    -- no sibling is below the other
-    sibling : (f a b : ℕ) → a ≢ b → a / 2 ≡ b / 2 → 0 < a → under f a b ≡ true → ⊥
-    sibling zero a b ne same pa e = true≢false (sym e)
-    sibling (suc f) a b ne same pa e = under_cases f a b ⊥ e (λ here. omega arith) (λ there. true≢false (sym there ∙ under_less f a (b / 2) pa (omega arith)))
+
+is_false : (b : Bool) → (b ≡ true → ⊥) → b ≡ false
+is_false true never = absurd (never refl)
+is_false false never = refl
 
 pub below_child : (k c m : ℕ) → 0 < k → m < 2048 → c / 2 ≡ k → below c m ≡ true → below k m ≡ true
 unfolding below
@@ -65,8 +69,9 @@ pub below_more : (k m : ℕ) → 0 < k → below k m ≡ true → k < m
 unfolding below
 below_more k m pos e = dite (native.Mathlib.Decide.dec_le m k) (λ le. absurd (true≢false (sym e ∙ under_less 10 k m pos le))) (λ no. omega arith)
 
--- the right child of a node is not below the left one
-pub below_sibling : (k : ℕ) → 0 < k → below (2 * k) (2 * k + 1) ≡ false
+pub no_sibling : (a b : ℕ) → a ≢ b → a / 2 ≡ b / 2 → 0 < a → 0 < b → below a b ≡ false
 unfolding below
-below_sibling k pos = let n : ℕ = 2 * k + 1 in let ne : n / 2 ≢ 2 * k = (λ e. omega arith) in
-    ap (λ b. b || under 9 (2 * k) (n / 2)) (ne_eqb (n / 2) (2 * k) ne) ∙ under_less 9 (2 * k) (n / 2) (omega arith) (omega arith)
+no_sibling a b ne same pa pb = is_false (under 10 a b) (λ e. sibling 10 a b ne same pa e)
+
+pub tree_laws : TreeLaws
+tree_laws = record { child_below = child_below; below_child = below_child; apart = below_apart; no_sibling = no_sibling; greater = below_more }

@@ -1,26 +1,31 @@
-//! The calls of the board.
-ghost use Rattle.std.specs.Prelude.{◌≡◌, ◌≢◌, ℕ, ◌+◌, ◌*◌, ◌/◌, ◌%◌, ◌^◌, ◌<◌, ◌≤◌, [], ◌∷◌, Option, Some, None, true, false};
-ghost use Rattle.par_board.specs.declared.view.Part.TheVariants as part;
-ghost use Rattle.par_board.specs.declared.view.Flight.TheVariants as flight;
-ghost use Rattle.par_board.specs.declared.view.Grip.TheVariants.{Held};
-ghost use Rattle.par_board.specs.Words.{code, pack};
+//! The calls on a node, each a few atomic steps on its word.
+ghost use Rattle.std.specs.Prelude.{◌≡◌, ◌≢◌, ℕ, ◌+◌, ◌*◌, ◌<◌, ◌≤◌, [], ◌∷◌, length, Some, None, false};
+ghost use Rattle.par_task.specs.Spans.{IsSpan};
+ghost use Rattle.par_board.specs.Words.{code, state_of, lo_of, hi_of, pack};
 ghost use Rattle.par_board.specs.Loads.{IsPiece};
-ghost use Rattle.par_board.specs.Rule.{Plain, owns_at, holds_at};
-ghost use Rattle.par_board.specs.Board.{SameOwns, SameHolds, Stepped, FreeTree, Claims, Offers, Finishes, Collects, MatchClaim, MatchCollect};
+ghost use Rattle.par_board.specs.Rule.{Plain};
+ghost use Rattle.par_board.specs.Calls.{looks, OwnsTree, HasOpen, Holds, IsOffered, IsClaimed, IsElsewhere, IsFinished, IsCollected, IsNotYet, MatchClaim, MatchCollect};
 
-use crate::answers::{Claim, Collect};
-use crate::law;
+use crate::answers::{Claim, Collect, NodeState};
+use crate::board::{Board, BoardSeat};
 use crate::load::Load;
-use crate::seat::{Board, BoardSeat};
-use crate::view::{NodeState, View};
+use crate::rule::{Close, Fill, Finish, Lay, Lift, Look, Offer, Take, TakeBack, View};
 use atomic_table::Seat;
 use par_laws::Shown;
 use par_splitter::Splitter;
 use par_task::Job;
 
-fn state_of(word: u64) -> NodeState
-    requires { word % 16 ≤ 6 }
-    ensures { code result ≡ word % 16 }
+// A word is lo * 2^34 + hi * 2^4 + state.
+fn pack(lo: u32, hi: u32, state: u8) -> u64
+    requires { (lo ≤ 4194304) × (hi ≤ 4194304) × (state < 16) }
+    ensures { result ≡ pack lo hi state }
+{
+    u64::from(lo) * (1 << 34) + u64::from(hi) * 16 + u64::from(state)
+}
+
+fn state_in(word: u64) -> NodeState
+    requires { state_of word ≤ 6 }
+    ensures { code result ≡ state_of word }
 {
     match word % 16 {
         0 => NodeState::Free,
@@ -33,10 +38,17 @@ fn state_of(word: u64) -> NodeState
     }
 }
 
+fn span_in(word: u64) -> (u32, u32)
+    requires { word < 18446744073709551616 }
+    ensures { (result.0 ≡ lo_of word) × (result.1 ≡ hi_of word) }
+{
+    ((word / (1 << 34)) as u32, (word / 16 % (1 << 30)) as u32)
+}
+
 impl<'a, J: Job> Board<'a, J> {
-    // Takes the load out of the slot that the seat has taken.
+    // Takes the load out of the slot that is out with the seat.
     fn take_out(&self, seat: &mut Seat<Option<Load<J>>, View<J>>, k: u32) -> Load<J>
-        requires board { seat.old.table_id ≡ self.now.table.shared.table_id }
+        requires board { seat.old.table_id ≡ self.now.of.table }
         requires load { (load : Plain J) × (seat.old.me.1 ≡ (k, Some load) ∷ []) }
         ensures same { (seat.new.table_id ≡ seat.old.table_id) × (seat.new.id ≡ seat.old.id) }
         ensures out { (seat.new.me ≡ (seat.old.me.0, (k, None) ∷ [])) × (seat.old.me.1 ≡ (k, Some result) ∷ []) }
@@ -47,9 +59,9 @@ impl<'a, J: Job> Board<'a, J> {
         }
     }
 
-    // Puts a load into the empty slot that the seat has taken.
+    // Puts a load into the empty slot that is out with the seat.
     fn put_in(&self, seat: &mut Seat<Option<Load<J>>, View<J>>, k: u32, load: Load<J>)
-        requires board { seat.old.table_id ≡ self.now.table.shared.table_id }
+        requires board { seat.old.table_id ≡ self.now.of.table }
         requires empty { seat.old.me.1 ≡ (k, None) ∷ [] }
         ensures same { (seat.new.table_id ≡ seat.old.table_id) × (seat.new.id ≡ seat.old.id) }
         ensures put { seat.new.me ≡ (seat.old.me.0, (k, Some load) ∷ []) }
@@ -60,105 +72,101 @@ impl<'a, J: Job> Board<'a, J> {
         }
     }
 
-    /// The node's state.
+    /// The state that the node is in, by one load. Constant time, and takes no memory.
     pub fn state(&self, seat: &mut BoardSeat<J>, k: u32) -> NodeState
-        requires board { seat.old.seat.table_id ≡ self.now.table.shared.table_id }
+        requires of { seat.old.of ≡ self.now.of }
         requires node { (0 < k) × (k < 2048) }
-        ensures same { (seat.new.seat.table_id ≡ seat.old.seat.table_id) × (seat.new.seat.me.0.job ≡ seat.old.seat.me.0.job) × (seat.new.seat.me.0.n ≡ seat.old.seat.me.0.n) }
-        ensures kept { SameOwns seat.old.seat.me.0 seat.new.seat.me.0 × SameHolds seat.old.seat.me.0 seat.new.seat.me.0 }
-        ensures read { Stepped k seat.old.seat.me.0 seat.new.seat.me.0 × (code result ≡ seat.new.seat.me.0.read % 16) }
+        ensures of { seat.new.of ≡ self.now.of }
+        ensures read { (read : ℕ) × (code result ≡ state_of read) × (seat.new ≡ looks k read seat.old) }
     {
-        let word = self
-            .table
-            .shared
-            .load::<law::Look>(&mut seat.seat, k as usize);
-        state_of(word)
+        let shared = &self.table.shared;
+        state_in(shared.load::<Look>(&mut seat.seat, k as usize))
     }
 
-    /// Claims an offered node.
-    pub fn claim(&self, seat: &mut BoardSeat<J>, k: u32) -> Claim<J::Split>
-        requires board { (seat.old.seat.table_id ≡ self.now.table.shared.table_id) × (seat.old.seat.me.0.job ≡ Some self.now.job.now) }
+    /// Offers a node to whoever claims it, with the splitter over its span, and opens it for the seat. The seat must own
+    /// the node and all nodes below it, all free; it owns those below no more. Another seat may have claimed the node
+    /// when the call returns. Constant time, and takes no memory.
+    pub fn offer(&self, seat: &mut BoardSeat<J>, k: u32, part: J::Split)
+        requires of { seat.old.of ≡ self.now.of }
         requires node { (0 < k) × (k < 2048) }
-        ensures same { (seat.new.seat.table_id ≡ seat.old.seat.table_id) × (seat.new.seat.me.0.job ≡ seat.old.seat.me.0.job) × (seat.new.seat.me.0.n ≡ seat.old.seat.me.0.n) }
-        ensures claim { MatchClaim result
-            (λ split. (lo : ℕ) × (hi : ℕ) × Claims k lo hi seat.old.seat.me.0 seat.new.seat.me.0 × IsPiece J.Split.items J.Split.lo (J.source self.now.job.now) lo hi split)
-            (λ state. SameOwns seat.old.seat.me.0 seat.new.seat.me.0 × SameHolds seat.old.seat.me.0 seat.new.seat.me.0 × Stepped k seat.old.seat.me.0 seat.new.seat.me.0 × (code state ≡ seat.new.seat.me.0.read % 16) × (code state ≢ 2)) }
+        requires tree { OwnsTree k seat.old }
+        requires part { IsSpan (J.source self.now.job) (J.Split.lo part) (J.Split.items part) }
+        ensures of { seat.new.of ≡ self.now.of }
+        ensures offered { IsOffered k (J.Split.lo part) (J.Split.lo part + length (J.Split.items part)) seat.old seat.new }
     {
-        let words = &self.table.shared;
-        let word = words.load::<law::Look>(&mut seat.seat, k as usize);
+        let (lo, hi) = part.span();
+        let shared = &self.table.shared;
+        let word = pack(lo, hi, 1);
+        shared.compare_exchange::<Fill>(&mut seat.seat, k as usize, 0, word);
+        self.put_in(&mut seat.seat, k, Load::of_split(self.job, lo, hi, part));
+        shared.compare_exchange::<Offer>(&mut seat.seat, k as usize, word, word + 1);
+    }
+
+    /// Claims a node. `Mine` comes exactly where the deciding step found `Offered`: the seat then holds the node, and owns
+    /// all nodes below it, free; the answer has the source's splitter over the node's span. `Elsewhere` has the state that
+    /// the deciding step read, and nothing changed. The deciding step is a load where that reads another state than
+    /// `Offered`, and else the step that claims. Constant time, and takes no memory.
+    pub fn claim(&self, seat: &mut BoardSeat<J>, k: u32) -> Claim<J::Split>
+        requires of { seat.old.of ≡ self.now.of }
+        requires node { (0 < k) × (k < 2048) }
+        ensures of { seat.new.of ≡ self.now.of }
+        ensures claim { MatchClaim result
+            (λ split. (lo : ℕ) × (hi : ℕ) × IsClaimed k lo hi seat.old seat.new × IsPiece J.Split.items J.Split.lo (J.source self.now.job) lo hi split)
+            (λ state. IsElsewhere k state seat.old seat.new) }
+    {
+        let shared = &self.table.shared;
+        let word = shared.load::<Look>(&mut seat.seat, k as usize);
         if word % 16 != 2 {
-            return Claim::Elsewhere(state_of(word));
+            return Claim::Elsewhere(state_in(word));
         }
-        let found = words.compare_exchange::<law::Claims>(
-            &mut seat.seat,
-            k as usize,
-            word,
-            word + 1,
-        );
+        let found = shared.compare_exchange::<Take>(&mut seat.seat, k as usize, word, word + 1);
         if found != word {
-            return Claim::Elsewhere(state_of(found));
+            return Claim::Elsewhere(state_in(found));
         }
         let load = self.take_out(&mut seat.seat, k);
-        words.load::<law::Lay>(&mut seat.seat, k as usize);
-        let lo = (word / (1 << 34)) as u32;
-        let hi = (word / 16 % (1 << 30)) as u32;
+        shared.load::<Lay>(&mut seat.seat, k as usize);
+        let (lo, hi) = span_in(word);
         Claim::Mine(load.into_split(self.job, lo, hi))
     }
 
-    /// Offers the node k, over whose span the splitter is the source.
-    pub fn offer(&self, seat: &mut BoardSeat<J>, k: u32, lo: u32, hi: u32, split: J::Split)
-        requires board { (seat.old.seat.table_id ≡ self.now.table.shared.table_id) × (seat.old.seat.me.0.job ≡ Some self.now.job.now) }
-        requires node { (0 < k) × (k < 2048) }
-        requires tree { FreeTree k seat.old.seat.me.0 }
-        requires span { (lo ≤ hi) × (hi ≤ seat.old.seat.me.0.n) × (hi ≤ 4194304) }
-        requires source { IsPiece J.Split.items J.Split.lo (J.source self.now.job.now) lo hi split }
-        ensures same { (seat.new.seat.table_id ≡ seat.old.seat.table_id) × (seat.new.seat.me.0.job ≡ seat.old.seat.me.0.job) × (seat.new.seat.me.0.n ≡ seat.old.seat.me.0.n) }
-        ensures offer { Offers k lo hi seat.old.seat.me.0 seat.new.seat.me.0 }
-    {
-        let words = &self.table.shared;
-        let word = u64::from(lo) * (1 << 34) + u64::from(hi) * 16 + 1;
-        words.compare_exchange::<law::Fills>(&mut seat.seat, k as usize, 0, word);
-        self.put_in(&mut seat.seat, k, Load::of_split(self.job, lo, hi, split));
-        words.compare_exchange::<law::Offers>(&mut seat.seat, k as usize, word, word + 1);
-    }
-
-    /// Finishes a held node with its part.
+    /// Finishes a node that the seat holds, with the part that is good over its span, and holds it no more.
+    /// Constant time, and takes no memory.
     pub fn finish(&self, seat: &mut BoardSeat<J>, k: u32, part: J::Part)
-        requires board { (seat.old.seat.table_id ≡ self.now.table.shared.table_id) × (seat.old.seat.me.0.job ≡ Some self.now.job.now) }
+        requires of { seat.old.of ≡ self.now.of }
         requires node { (0 < k) × (k < 2048) }
-        requires held { (lo : ℕ) × (hi : ℕ) × (holds_at seat.old.seat.me.0 k ≡ Held lo hi false) × J.good self.now.job.now lo hi (J.Part.shown part) }
-        ensures same { (seat.new.seat.table_id ≡ seat.old.seat.table_id) × (seat.new.seat.me.0.job ≡ seat.old.seat.me.0.job) × (seat.new.seat.me.0.n ≡ seat.old.seat.me.0.n) }
-        ensures finish { Finishes k seat.old.seat.me.0 seat.new.seat.me.0 }
+        requires held { (lo : ℕ) × (hi : ℕ) × Holds k lo hi seat.old × J.good self.now.job lo hi (J.Part.shown part) }
+        ensures of { seat.new.of ≡ self.now.of }
+        ensures finished { IsFinished k seat.old seat.new }
     {
-        let words = &self.table.shared;
-        let word = words.load::<law::Lift>(&mut seat.seat, k as usize);
-        let lo = (word / (1 << 34)) as u32;
-        let hi = (word / 16 % (1 << 30)) as u32;
+        let shared = &self.table.shared;
+        let word = shared.load::<Lift>(&mut seat.seat, k as usize);
+        let (lo, hi) = span_in(word);
         self.put_in(&mut seat.seat, k, Load::of_part(self.job, lo, hi, part));
-        words.compare_exchange::<law::Finishes>(&mut seat.seat, k as usize, word, word + 1);
+        shared.compare_exchange::<Finish>(&mut seat.seat, k as usize, word, word + 1);
     }
 
-    /// Takes the part of an open node back.
+    /// Takes the part of a node back that the seat has open. `Got` comes exactly where its load read `Done`: the part is
+    /// good over the node's span, and the node is merged. `NotYet` comes where that load read `Offered` or `Taken`, and
+    /// nothing changed. Constant time, and takes no memory.
     pub fn collect(&self, seat: &mut BoardSeat<J>, k: u32) -> Collect<J::Part>
-        requires board { (seat.old.seat.table_id ≡ self.now.table.shared.table_id) × (seat.old.seat.me.0.job ≡ Some self.now.job.now) }
+        requires of { seat.old.of ≡ self.now.of }
         requires node { (0 < k) × (k < 2048) }
-        requires open { (lo : ℕ) × (hi : ℕ) × (owns_at seat.old.seat.me.0 k ≡ part.Open lo hi flight.No) }
-        ensures same { (seat.new.seat.table_id ≡ seat.old.seat.table_id) × (seat.new.seat.me.0.job ≡ seat.old.seat.me.0.job) × (seat.new.seat.me.0.n ≡ seat.old.seat.me.0.n) }
+        requires open { (lo : ℕ) × (hi : ℕ) × HasOpen k lo hi seat.old }
+        ensures of { seat.new.of ≡ self.now.of }
         ensures collect { MatchCollect result
-            (λ p. Collects k seat.old.seat.me.0 seat.new.seat.me.0 × ((lo hi : ℕ) → owns_at seat.old.seat.me.0 k ≡ part.Open lo hi flight.No → J.good self.now.job.now lo hi (J.Part.shown p)))
-            (SameOwns seat.old.seat.me.0 seat.new.seat.me.0 × SameHolds seat.old.seat.me.0 seat.new.seat.me.0 × Stepped k seat.old.seat.me.0 seat.new.seat.me.0 × (2 ≤ seat.new.seat.me.0.read % 16) × (seat.new.seat.me.0.read % 16 ≤ 3)) }
+            (λ part. IsCollected k seat.old seat.new × ((lo hi : ℕ) → HasOpen k lo hi seat.old → J.good self.now.job lo hi (J.Part.shown part)))
+            (IsNotYet k seat.old seat.new) }
     {
-        let words = &self.table.shared;
-        let word = words.load::<law::Look>(&mut seat.seat, k as usize);
+        let shared = &self.table.shared;
+        let word = shared.load::<Look>(&mut seat.seat, k as usize);
         if word % 16 != 4 {
             return Collect::NotYet;
         }
-        words.compare_exchange::<law::Takes>(&mut seat.seat, k as usize, word, word + 1);
+        shared.compare_exchange::<TakeBack>(&mut seat.seat, k as usize, word, word + 1);
         let load = self.take_out(&mut seat.seat, k);
         let merging = word + 1;
-        words.compare_exchange::<law::Closes>(&mut seat.seat, k as usize, merging, merging + 1);
-        let lo = (word / (1 << 34)) as u32;
-        let hi = (word / 16 % (1 << 30)) as u32;
+        shared.compare_exchange::<Close>(&mut seat.seat, k as usize, merging, merging + 1);
+        let (lo, hi) = span_in(word);
         Collect::Got(load.into_part(self.job, lo, hi))
     }
 }
