@@ -30,6 +30,11 @@ pub under_less : (fuel k m : ℕ) → 0 < k → m ≤ k → under fuel k m ≡ f
 under_less zero k m h g = refl
 under_less (suc fuel) k m h g = let n : m / 2 ≢ k = omega arith in rw (ne_eqb (m / 2) k n) (under_less fuel k (m / 2) h (omega arith))
 
+-- no node is below one with a greater number, or the same
+pub not_above : (k m : ℕ) → 0 < k → m ≤ k → below k m ≡ false
+unfolding below
+not_above k m h g = under_less 10 k m h g
+
 -- nothing is below itself
 pub not_below : (k : ℕ) → 0 < k → below k k ≡ false
 unfolding below

@@ -1,4 +1,4 @@
-use Rattle.std.proofs.Common.{rules, ◌≡◌, ℕ, Some, [], ◌∷◌, refl, sym, ap, ◌∙◌, subst, true}
+use Rattle.std.proofs.Common.{rules, ◌≡◌, ℕ, Some, [], ◌∷◌, refl, sym, ap, ◌∙◌, subst, true, false}
 use Rattle.par_board.specs.Words.{lo_of, hi_of}
 use Rattle.par_board.specs.Seen.{holds_at, held_over}
 use Rattle.par_board.specs.Calls.{IsFinished}
@@ -12,7 +12,7 @@ load-word-requires g c = let held = c.requires.held in (search rules, search rul
 
 pub compare_exchange-requires : goal.compare_exchange-requires
 compare_exchange-requires g c = let held = c.requires.held in let a : ℕ = c.load-word.result in let lift = c.load-word.ensures.2.0 in let over = c.load-word.ensures.2.1 in
-    let holds : holds_at c.seat.inside.seat.me.0 c.args.k ≡ held_over held.0 held.1 _ = search (rules, held) in
+    let holds : holds_at c.seat.inside.seat.me.0 c.args.k ≡ held_over held.0 held.1 false = search (rules, held) in
     let job_is : Some c.self.inside.job.now ≡ c.seat.inside.seat.me.0.of = search rules in
     let put = c.put_in.ensures.put ∙ (λ i. (c.load-word.new.seat.me.0, (c.args.k, Some ((c.of_part.ensures ∙ (λ j. (job_is j, c.span_in-lo.ensures.0 j, c.span_in-lo.ensures.1 j, true))) i)) ∷ [])) in (
       search rules,
@@ -26,7 +26,7 @@ compare_exchange-requires g c = let held = c.requires.held in let a : ℕ = c.lo
 
 pub returns-clause-finished : goal.returns-clause-finished
 returns-clause-finished g c = let held = c.requires.held in let a : ℕ = c.load-word.result in let lift = c.load-word.ensures.2.0 in let over = c.load-word.ensures.2.1 in
-    let holds : holds_at c.seat.inside.seat.me.0 c.args.k ≡ held_over held.0 held.1 _ = search (rules, held) in
+    let holds : holds_at c.seat.inside.seat.me.0 c.args.k ≡ held_over held.0 held.1 false = search (rules, held) in
     let job_is : Some c.self.inside.job.now ≡ c.seat.inside.seat.me.0.of = search rules in
     let put = c.put_in.ensures.put ∙ (λ i. (c.load-word.new.seat.me.0, (c.args.k, Some ((c.of_part.ensures ∙ (λ j. (job_is j, c.span_in-lo.ensures.0 j, c.span_in-lo.ensures.1 j, true))) i)) ∷ [])) in
     subst (λ x. IsFinished c.args.k x (located c.compare_exchange.new.seat.table_id c.compare_exchange.new.seat.me.0)) c.seat.view_is
