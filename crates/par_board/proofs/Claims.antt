@@ -70,15 +70,15 @@ module _ {J : Type 0} (job : Option J) (n : ℕ) (s : State (Option (Plain J)) (
       area_others = λ j m other h e.
           unowned j (idle id) (λ z. omega arith) ∙ sym (unowned j (r.cells m) (let z = ap (λ (y : Cell). y.owner) (hidden_below m h e) in λ y. omega arith));
       owns = λ m h. at_table (λ (q : ℕ). cond (below k q) owned_free (owns_at me.0 q)) m not_owned h ∙ at_put k taken (below k) (idle id) r.cells (λ q y. q < 2048 → cond (below k q) owned_free (owns_at me.0 q) ≡ owns_of id y) m
-            (λ g. ap (λ (b : Bool). cond b owned_free (owns_at me.0 k)) (not_below k pos) ∙ o.owns k g ∙ ap (λ (st : NodeState). cond (eqb c.owner (suc id)) (entry c.lo c.hi st) not_owned) offered)
-            (λ ne e g. ap (λ (b : Bool). cond b owned_free (owns_at me.0 m)) e ∙ sym (owned_by id (idle id) refl))
-            (λ ne e g. ap (λ (b : Bool). cond b owned_free (owns_at me.0 m)) e ∙ o.owns m g) h;
+          (λ g. ap (λ (b : Bool). cond b owned_free (owns_at me.0 k)) (not_below k pos) ∙ o.owns k g ∙ ap (λ (st : NodeState). cond (eqb c.owner (suc id)) (entry c.lo c.hi st) not_owned) offered)
+          (λ ne e g. ap (λ (b : Bool). cond b owned_free (owns_at me.0 m)) e ∙ sym (owned_by id (idle id) refl))
+          (λ ne e g. ap (λ (b : Bool). cond b owned_free (owns_at me.0 m)) e ∙ o.owns m g) h;
       holds = λ m h. at_table (λ (q : ℕ). cond (eqb q k) (held_over (lo_of x) (hi_of x) true) (holds_at me.0 q)) m not_held h
-            ∙ at_put k taken (below k) (idle id) r.cells (λ q y. q < 2048 → cond (eqb q k) (held_over (lo_of x) (hi_of x) true) (holds_at me.0 q) ≡ holds_of id y) m
-            (λ g. ap (λ (b : Bool). cond b (held_over (lo_of x) (hi_of x) true) (holds_at me.0 k)) (eq-eqb k k refl) ∙ (λ i. held_over (sh.1 i) (sh.2 i) true) ∙ sym (held_by id taken refl))
-            (λ ne e g. ap (λ (b : Bool). cond b (held_over (lo_of x) (hi_of x) true) (holds_at me.0 m)) (ne_eqb m k ne) ∙ o.holds m g
-            ∙ loose id (r.cells m) (let z = ap (λ (y : Cell). y.holder) (hidden_below m g e) in λ y. omega arith) ∙ sym (loose id (idle id) (λ z. omega arith)))
-            (λ ne e g. ap (λ (b : Bool). cond b (held_over (lo_of x) (hi_of x) true) (holds_at me.0 m)) (ne_eqb m k ne) ∙ o.holds m g) h;
+          ∙ at_put k taken (below k) (idle id) r.cells (λ q y. q < 2048 → cond (eqb q k) (held_over (lo_of x) (hi_of x) true) (holds_at me.0 q) ≡ holds_of id y) m
+          (λ g. ap (λ (b : Bool). cond b (held_over (lo_of x) (hi_of x) true) (holds_at me.0 k)) (eq-eqb k k refl) ∙ (λ i. held_over (sh.1 i) (sh.2 i) true) ∙ sym (held_by id taken refl))
+          (λ ne e g. ap (λ (b : Bool). cond b (held_over (lo_of x) (hi_of x) true) (holds_at me.0 m)) (ne_eqb m k ne) ∙ o.holds m g
+          ∙ loose id (r.cells m) (let z = ap (λ (y : Cell). y.holder) (hidden_below m g e) in λ y. omega arith) ∙ sym (loose id (idle id) (λ z. omega arith)))
+          (λ ne e g. ap (λ (b : Bool). cond b (held_over (lo_of x) (hi_of x) true) (holds_at me.0 m)) (ne_eqb m k ne) ∙ o.holds m g) h;
       covers = λ a m ha hm hiding is_below. at_put k taken (below k) (idle id) r.cells (λ q y. hides y.state ≡ true → q ≡ a → cells' m ≡ hidden a) a
           (λ e _. absurd (true≢false (sym e))) (λ _ _ e _. absurd (true≢false (sym e)))
           (λ ne _ e _. let was = r.covers a m ha hm e is_below in at_put k taken (below k) (idle id) r.cells (λ q y. q ≡ m → y ≡ hidden a) m

@@ -88,14 +88,14 @@ module _ {J : Type 0} (job : Option J) (n : ℕ) (s : State (Option (Plain J)) (
               loose j filling (λ e. omega arith) ∙ sym (loose j c (let y = f.1.3 in λ e. omega arith)),
             );
             area_others = λ j m other h e. unowned j (hidden k) (λ y. omega arith) ∙ sym (unowned j (r.cells m) (let y = (free_cell m h (tree m h e)).0 in λ g. other (omega arith)));
-              owns = λ m h. at_put k filling (below k) (hidden k) r.cells (λ q y. q < 2048 → owns_at w q ≡ owns_of id y) m
-                  (λ g. own_here k p u g ∙ (λ i. owned_open (lo_is i) (hi_is i) offering) ∙ sym (owned_by id filling f.0))
-                  (λ ne e g. own_else k p u m g ne ∙ below_owned k not_owned v m g e ∙ sym (unowned id (hidden k) (λ y. omega arith)))
-                  (λ ne e g. own_else k p u m g ne ∙ beside_owned k not_owned v m g e ∙ o.owns m g) h;
-              holds = λ m h. at_put k filling (below k) (hidden k) r.cells (λ q y. q < 2048 → holds_at w q ≡ holds_of id y) m
-                  (λ g. o.holds k g ∙ loose id c (let y = f.1.3 in λ e. omega arith) ∙ sym (loose id filling (λ e. omega arith)))
-                  (λ ne e g. o.holds m g ∙ loose id (r.cells m) (let y = (free_cell m g (tree m g e)).1.3 in λ d. omega arith) ∙ sym (loose id (hidden k) (λ d. omega arith)))
-                  (λ _ _ g. o.holds m g) h;
+            owns = λ m h. at_put k filling (below k) (hidden k) r.cells (λ q y. q < 2048 → owns_at w q ≡ owns_of id y) m
+                (λ g. own_here k p u g ∙ (λ i. owned_open (lo_is i) (hi_is i) offering) ∙ sym (owned_by id filling f.0))
+                (λ ne e g. own_else k p u m g ne ∙ below_owned k not_owned v m g e ∙ sym (unowned id (hidden k) (λ y. omega arith)))
+                (λ ne e g. own_else k p u m g ne ∙ beside_owned k not_owned v m g e ∙ o.owns m g) h;
+            holds = λ m h. at_put k filling (below k) (hidden k) r.cells (λ q y. q < 2048 → holds_at w q ≡ holds_of id y) m
+                (λ g. o.holds k g ∙ loose id c (let y = f.1.3 in λ e. omega arith) ∙ sym (loose id filling (λ e. omega arith)))
+                (λ ne e g. o.holds m g ∙ loose id (r.cells m) (let y = (free_cell m g (tree m g e)).1.3 in λ d. omega arith) ∙ sym (loose id (hidden k) (λ d. omega arith)))
+                (λ _ _ g. o.holds m g) h;
             covers = λ a m ha hm hiding is_below. at_put k filling (below k) (hidden k) r.cells (λ q y. hides y.state ≡ true → q ≡ a → cells' m ≡ hidden a) a
                 (λ _ same. at_put k filling (below k) (hidden k) r.cells (λ q y. q ≡ m → y ≡ hidden a) m
                 (λ me. absurd (true≢false (subst (λ (q : ℕ × ℕ). true ≡ below q.0 q.1) (λ i. (sym same i, sym me i)) (sym is_below) ∙ not_below k pos)))

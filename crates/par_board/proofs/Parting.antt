@@ -41,7 +41,6 @@ module _ {J : Type 0} (job : Option J) (n : ℕ) where
               (λ (x : (j ≢ id) × (get_elem? s.views j ≡ some u)). r.each_view j u x.1 live') (at_set s.views id j w u old))
               (λ (x : (j ≡ length vs) × (right_of v ≡ u)). subst (Knows job r.cells j) x.1 record {
                 job_is = o.job_is;
-               
                 owns = λ m h. at_table (λ _. not_owned) m not_owned h ∙ sym (unowned j (r.cells m) (λ e. here j m x.0 h (r.owned m j h e)));
                 holds = λ m h. at_table (λ _. not_held) m not_held h ∙ sym (loose j (r.cells m) (λ e. here j m x.0 h (r.gripped m j h e)));
                 noted = λ i x e. absurd (some-ne-none x (sym e));
@@ -126,7 +125,6 @@ module _ {J : Type 0} (job : Option J) (n : ℕ) (s : State (Option (Plain J)) (
         (λ (x : (j ≢ other) × (get_elem? (set s.views id all_) j ≡ some u)). ⊎_elim
         (λ (y : (j ≡ id) × (all_ ≡ u)). subst (λ (z : ℕ × Known J). Knows job there z.0 z.1) (λ i. (sym y.0 i, y.1 i)) record {
           job_is = o.job_is;
-         
           owns = λ m h. at_table (λ (q : ℕ). merge (owns_at v q) (owns_at w q)) m not_owned h ∙ owned_in m h;
           holds = λ m h. o.holds m h;
           noted = o.noted;
@@ -169,11 +167,11 @@ starts {J} job n ws count is few wide zeros = let views : List (Known J) = begun
   owned = λ k j h e. subst (Lives views) (let q : 0 ≡ j = omega arith in q) first;
   gripped = λ k j h e. absurd (omega arith);
   each_view = λ j v at live. (λ (x : (j ≡ 0) × (begun job ≡ v)). subst (λ (y : ℕ × Known J). Knows job (λ _. idle 0) y.0 y.1) (λ i. (sym x.0 i, x.1 i)) record {
-        job_is = refl;
-        owns = λ m h. at_table (λ _. owned_free) m not_owned h ∙ sym (owned_by 0 (idle 0) refl);
-        holds = λ m h. at_table (λ _. not_held) m not_held h ∙ sym (loose 0 (idle 0) (λ e. omega arith));
-        noted = λ i x e. absurd (some-ne-none x (sym e));
-      }) (one_view v j at);
+    job_is = refl;
+    owns = λ m h. at_table (λ _. owned_free) m not_owned h ∙ sym (owned_by 0 (idle 0) refl);
+    holds = λ m h. at_table (λ _. not_held) m not_held h ∙ sym (loose 0 (idle 0) (λ e. omega arith));
+    noted = λ i x e. absurd (some-ne-none x (sym e));
+  }) (one_view v j at);
   covers = λ a m _ _ e _. absurd (true≢false (sym e));
   covered = λ m _ _ e. absurd (omega arith);
   parted = (0, omega arith, λ j v at live none. let is = one_view v j at in let all : all_parts ≡ v.parts = ap (λ (u : Known J). u.parts) is.1 in absurd (omega arith));

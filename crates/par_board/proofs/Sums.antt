@@ -47,8 +47,8 @@ module _ {F : Type 0} where
         lost + gone,
         omega arith,
         (λ j x e alive z. ⊎_elim
-        (λ (old : get_elem? (set l i w) j ≡ some x). each_set (λ _ (y : Sight F). y.live ≡ true → y.parts ≡ 0 → 0 < lost + gone) l i w (λ _ y. few y) (λ k y _ d a b. let h = p.2 k y d a b in omega arith) j x old alive z)
-        (λ (new : (j ≡ length (set l i w)) × (u ≡ x)). let is : u.parts ≡ x.parts = ap (λ (y : Sight F). y.parts) new.1 in few (omega arith)) (at_end (set l i w) u x j e)),
+            (λ (old : get_elem? (set l i w) j ≡ some x). each_set (λ _ (y : Sight F). y.live ≡ true → y.parts ≡ 0 → 0 < lost + gone) l i w (λ _ y. few y) (λ k y _ d a b. let h = p.2 k y d a b in omega arith) j x old alive z)
+            (λ (new : (j ≡ length (set l i w)) × (u ≡ x)). let is : u.parts ≡ x.parts = ap (λ (y : Sight F). y.parts) new.1 in few (omega arith)) (at_end (set l i w) u x j e)),
       )
 
   -- a join adds the parts of the seat that is given up

@@ -10,6 +10,7 @@ pub record IsPiece {S X : Type 0} (items : S → List X) (lo_of : S → ℕ) (so
   pub ends : lo + length (items s) ≡ hi
   pub span : IsSpan source lo (items s)
 
+-- whether a part lies there, and not a splitter
 abbrev pub is_part : {S P : Type 0} → Either S P → Bool
 is_part (Left s) = false
 is_part (Right p) = true

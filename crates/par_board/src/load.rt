@@ -5,11 +5,13 @@ ghost use Rattle.par_board.specs.Loads.{IsPiece};
 use either::{Either, Left, Right};
 use par_laws::Shown;
 use par_splitter::Splitter;
+use par_task::Job;
 use std::marker::Model;
 use std::snapshot::Snapshot;
-use par_task::Job;
 
-/// A splitter or a part of a job, over a span. Contracts see the job, the span, and whether it is a part.
+/// A splitter or a part of a job, over a span: the splitter is the source over that span, and the part is good over it.
+/// Contracts see the job's plain data, the span, and whether it is a part. Its job is a snapshot, so that it may cross threads
+/// without the job.
 #[derive(Drop)]
 pub struct Load<J: Job> {
     job: Snapshot<J>,
@@ -31,6 +33,7 @@ impl<J: Job> Model for Load<J> {
 }
 
 impl<J: Job> Load<J> {
+    // A splitter over its span. Constant time.
     pub(crate) fn of_split(job: &J, lo: u32, hi: u32, split: J::Split) -> Load<J>
         requires { IsPiece J.Split.items J.Split.lo (J.source job.now) lo hi split }
         ensures { result ≡ (Some job.now, lo, hi, false) }
@@ -43,6 +46,7 @@ impl<J: Job> Load<J> {
         }
     }
 
+    // A part over its span. Constant time.
     pub(crate) fn of_part(job: &J, lo: u32, hi: u32, part: J::Part) -> Load<J>
         requires { J.good job.now lo hi (J.Part.shown part) }
         ensures { result ≡ (Some job.now, lo, hi, true) }
@@ -54,9 +58,8 @@ impl<J: Job> Load<J> {
             what: Right(part),
         }
     }
-}
 
-impl<J: Job> Load<J> {
+    // The splitter, where it is one. Constant time.
     pub(crate) fn into_split(self, job: &J, lo: u32, hi: u32) -> J::Split
         requires { self ≡ (Some job.now, lo, hi, false) }
         ensures { IsPiece J.Split.items J.Split.lo (J.source job.now) lo hi result }
@@ -73,6 +76,7 @@ impl<J: Job> Load<J> {
         }
     }
 
+    // The part, where it is one. Constant time.
     pub(crate) fn into_part(self, job: &J, lo: u32, hi: u32) -> J::Part
         requires { self ≡ (Some job.now, lo, hi, true) }
         ensures { J.good job.now lo hi (J.Part.shown result) }

@@ -17,11 +17,7 @@ const PLACES: usize = 2048;
 impl<'a, J: Job> Board<'a, J> {
     /// Opens a board over the `n` items of the job's source. All nodes are free, the seat owns them, and it stands for all
     /// parts of the board. The one error is want of memory. Linear in the number of nodes.
-    pub fn open(
-        alloc: Global,
-        job: &'a J,
-        n: u32,
-    ) -> Result<(Board<'a, J>, BoardSeat<J>), Memory>
+    pub fn open(alloc: Global, job: &'a J, n: u32) -> Result<(Board<'a, J>, BoardSeat<J>), Memory>
         requires length { length (J.source job.now) ≡ n }
         requires few { n ≤ 4194304 }
         ensures board { IfOk result (λ b. b.0.job ≡ job.now) }
@@ -70,20 +66,14 @@ impl<'a, J: Job> Board<'a, J> {
 
     /// Gives up a seat that holds nothing: the other seat owns what both did, and stands for the parts of both.
     /// Constant time.
-    pub fn join_seat(
-        &self,
-        seat: &mut BoardSeat<J>,
-        other: BoardSeat<J>,
-    ) -> Result<(), Memory>
+    pub fn join_seat(&self, seat: &mut BoardSeat<J>, other: BoardSeat<J>) -> Result<(), Memory>
         requires of { seat.old.of ≡ self.now.of }
         requires other { (other.of ≡ self.now.of) × HoldsNothing other }
         ensures seat { seat.new ≡ joined seat.old other }
         ensures owns { (m : ℕ) → m < 2048 → owns_at seat.new m ≡ merge (owns_at seat.old m) (owns_at other m) }
     {
         let SeatOf { seat: other } = other;
-        self.table
-            .shared
-            .join_seat::<Glue>(&mut seat.seat, other);
+        self.table.shared.join_seat::<Glue>(&mut seat.seat, other);
         Ok(())
     }
 
@@ -105,9 +95,7 @@ impl<'a, J: Job> Board<'a, J> {
         while k < PLACES {
             let state = closed.word(k) % 16;
             prove!(state == 0 || state == 6);
-            let None = closed.take(k) else {
-                unreachable!()
-            };
+            let None = closed.take(k) else { unreachable!() };
             k += 1;
         }
         closed.free();

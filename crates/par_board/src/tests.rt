@@ -125,11 +125,7 @@ fn waits(board: &Board<'_, Count>, seat: &mut BoardSeat<Count>, _count: u32) -> 
 }
 
 // The part of node 3.
-fn second_part(
-    board: &Board<'_, Count>,
-    seat: &mut BoardSeat<Count>,
-    _count: u32,
-) -> Option<u32>
+fn second_part(board: &Board<'_, Count>, seat: &mut BoardSeat<Count>, _count: u32) -> Option<u32>
     requires of { seat.old.of ≡ board.now.of }
     requires cut { HasCut _count seat.old.owns seat.old.holds }
     ensures of { seat.new.of ≡ board.now.of }
@@ -142,11 +138,7 @@ fn second_part(
 }
 
 // Finishes node 1 and takes its part back.
-fn whole_part(
-    board: &Board<'_, Count>,
-    seat: &mut BoardSeat<Count>,
-    count: u32,
-) -> Option<u32>
+fn whole_part(board: &Board<'_, Count>, seat: &mut BoardSeat<Count>, count: u32) -> Option<u32>
     requires of { seat.old.of ≡ board.now.of }
     requires half { HasHalf count seat.old.owns seat.old.holds }
     ensures of { seat.new.of ≡ board.now.of }
@@ -183,6 +175,8 @@ fn a_node_is_claimed_and_collected_once(rt: HostRuntime) -> Result<(), Fail> {
         source: source.dup(),
     };
     let (board, mut first) = Board::open(rt.alloc(), &job, 4)?;
+    assert_eq!(rt; board.count(), board.job().source.remaining());
+    assert_eq!(rt; board.state(&mut first, 3), NodeState::Free);
     let Some(count) = cut_off(&board, &mut first, source) else {
         panic!(rt; "node 1 is the seat's own")
     };

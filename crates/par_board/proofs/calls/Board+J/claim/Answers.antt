@@ -36,4 +36,3 @@ returns-clause-claim g c = let look = c.load-word.ensures.2.0 in let did = c.com
           (subst (λ x. IsPiece g.J.Split.Splitter.items g.J.Split.Splitter.lo (g.J.Job.source c.self.inside.job.now) x (hi_of r) c.into_split.result) lo_is
           (subst (λ x. IsPiece g.J.Split.Splitter.items g.J.Split.Splitter.lo (g.J.Job.source c.self.inside.job.now) c.span_in-lo.result.0 x c.into_split.result) hi_is c.into_split.ensures)),
     )
-

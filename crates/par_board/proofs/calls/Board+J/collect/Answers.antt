@@ -41,8 +41,8 @@ returns-clause-collect g c = let look = c.load-word.ensures.2.0 in let take = c.
       subst (λ x. IsCollected c.args.k x (located c.compare_exchange-2.new.seat.table_id c.compare_exchange-2.new.seat.me.0)) c.seat.view_is
           (collect_done c.args.k w r c.seat.inside.seat.me c.load-word.new.seat.me c.compare_exchange.new.seat.me c.take_out-load.new.seat.me _ (search rules) look take out c.seat.inside.seat.table_id c.compare_exchange-2.new.seat.table_id (search rules) c.compare_exchange.ensures.2.1 c.if-word-ne4.false _ _ c.compare_exchange-2.ensures.2.0),
       (λ lo hi e. let e' : owns_at c.seat.inside.seat.me.0 c.args.k ≡ owned_open lo hi settled = ap (λ v. owns_at v c.args.k) c.seat.view_is ∙ e in let is = c.load-word.ensures.2.2 lo hi e' in
-      let lo_is : c.span_in-lo.result.0 ≡ lo = (c.span_in-lo.ensures.0 ∙ is.2) in let hi_is : c.span_in-lo.result.1 ≡ hi = (c.span_in-lo.ensures.1 ∙ is.3) in
-      subst (λ x. g.J.Job.good x lo hi (g.J.Part.Shown.shown c.into_part.result)) job_is
+          let lo_is : c.span_in-lo.result.0 ≡ lo = (c.span_in-lo.ensures.0 ∙ is.2) in let hi_is : c.span_in-lo.result.1 ≡ hi = (c.span_in-lo.ensures.1 ∙ is.3) in
+          subst (λ x. g.J.Job.good x lo hi (g.J.Part.Shown.shown c.into_part.result)) job_is
           (subst (λ x. g.J.Job.good c.self.inside.job.now x hi (g.J.Part.Shown.shown c.into_part.result)) lo_is
           (subst (λ x. g.J.Job.good c.self.inside.job.now c.span_in-lo.result.0 x (g.J.Part.Shown.shown c.into_part.result)) hi_is c.into_part.ensures))),
     )

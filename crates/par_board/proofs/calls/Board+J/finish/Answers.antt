@@ -30,4 +30,4 @@ returns-clause-finished g c = let held = c.requires.held in let a : ℕ = c.load
     let job_is : Some c.self.inside.job.now ≡ c.seat.inside.seat.me.0.of = search rules in
     let put = c.put_in.ensures.put ∙ (λ i. (c.load-word.new.seat.me.0, (c.args.k, Some ((c.of_part.ensures ∙ (λ j. (job_is j, c.span_in-lo.ensures.0 j, c.span_in-lo.ensures.1 j, true))) i)) ∷ [])) in
     subst (λ x. IsFinished c.args.k x (located c.compare_exchange.new.seat.table_id c.compare_exchange.new.seat.me.0)) c.seat.view_is
-        (finish_done c.args.k a held.0 held.1 c.seat.inside.seat.me c.load-word.new.seat.me c.put_in.new.seat.me (search rules) holds over lift put c.seat.inside.seat.table_id c.compare_exchange.new.seat.table_id (search rules) _ _ c.compare_exchange.ensures.2.0 c.compare_exchange.ensures.2.1)
+    (finish_done c.args.k a held.0 held.1 c.seat.inside.seat.me c.load-word.new.seat.me c.put_in.new.seat.me (search rules) holds over lift put c.seat.inside.seat.table_id c.compare_exchange.new.seat.table_id (search rules) _ _ c.compare_exchange.ensures.2.0 c.compare_exchange.ensures.2.1)

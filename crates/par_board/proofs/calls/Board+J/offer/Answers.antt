@@ -50,6 +50,6 @@ returns-clause-offered g c = let lo : ℕ = c.span-lo.result.0 in let hi : ℕ =
     let put = c.put_in.ensures.put ∙ (λ i. (c.compare_exchange.new.seat.me.0, (c.args.k, Some ((c.of_split.ensures ∙ (λ j. (job_is j, lo, hi, false))) i)) ∷ [])) in let fill = c.compare_exchange.ensures.2.0 in
     let new_seat = located c.compare_exchange-2.new.seat.table_id c.compare_exchange-2.new.seat.me.0 in
     subst (λ x. IsOffered c.args.k x (g.J.Split.Splitter.lo c.args.part + length (g.J.Split.Splitter.items c.args.part)) c.args.seat.now new_seat) c.span-lo.ensures.lo
-        (subst (λ x. IsOffered c.args.k lo x c.args.seat.now new_seat) c.span-lo.ensures.hi
-        (subst (λ x. IsOffered c.args.k lo hi x new_seat) c.seat.view_is
-        (offer_done c.args.k c.compare_exchange.result new lo hi c.seat.inside.seat.me c.compare_exchange.new.seat.me c.put_in.new.seat.me (search rules) (search rules) lo_is hi_is fill put c.seat.inside.seat.table_id c.compare_exchange-2.new.seat.table_id (search rules) c.compare_exchange.ensures.2.1 _ _ c.compare_exchange-2.ensures.2.0 c.compare_exchange-2.ensures.2.1)))
+    (subst (λ x. IsOffered c.args.k lo x c.args.seat.now new_seat) c.span-lo.ensures.hi
+    (subst (λ x. IsOffered c.args.k lo hi x new_seat) c.seat.view_is
+    (offer_done c.args.k c.compare_exchange.result new lo hi c.seat.inside.seat.me c.compare_exchange.new.seat.me c.put_in.new.seat.me (search rules) (search rules) lo_is hi_is fill put c.seat.inside.seat.table_id c.compare_exchange-2.new.seat.table_id (search rules) c.compare_exchange.ensures.2.1 _ _ c.compare_exchange-2.ensures.2.0 c.compare_exchange-2.ensures.2.1)))
