@@ -1,5 +1,5 @@
 -- What stays of the rule when one node's cell moves, and the cells of an area with it.
-use Rattle.std.proofs.Common.{◌≡◌, ◌≢◌, ℕ, zero, suc, ◌<◌, ◌≤◌, List, [], ◌∷◌, length, set, sym, refl, ap, ◌∙◌, subst, arith, Bool, true, false, cond, eq-eqb, ne_eqb, length-set, get_or-set_other, get_or-set_same}
+use Rattle.std.proofs.Common.{◌≡◌, ◌≢◌, ℕ, zero, suc, ◌<◌, ◌≤◌, List, ◌∷◌, length, set, sym, refl, ap, ◌∙◌, subst, arith, Bool, true, cond, eq-eqb, ne_eqb, length-set, get_or-set_other, get_or-set_same}
 use mathlib.Core.Logic.{dite}
 use mathlib.Core.Option.{some, none, some-injective}
 use mathlib.Core.Option as maybe
@@ -8,11 +8,11 @@ use lib.ListN.{get_elem?}
 use Rattle.std.specs.Prelude.{Option, None, slice_index}
 use Rattle.atomic_table.specs.Table.{State}
 use Rattle.atomic_table.proofs.Lists.{set_else}
-use Rattle.par_views.proofs.Puts.{put, at_put, put_here}
+use Rattle.par_views.proofs.Puts.{put, at_put}
 use Rattle.par_views.proofs.Views.{here, each_set}
 use Rattle.par_board.specs.Seen.{not_owned, not_held, held_over, Kind, Note, owns_at, holds_at}
 use Rattle.par_board.specs.declared.answers.NodeState.TheVariants.{Free}
-use Rattle.par_board.specs.Words.{pack, state_of, code}
+use Rattle.par_board.specs.Words.{pack, code}
 use Rattle.par_board.specs.Tree.{below}
 use Rattle.par_board.specs.Rule.{Plain, Cell, hidden, face, hides, entry, owns_of, holds_of, home_at, home_of, Lives, CellOk, Later, NotesFit, Knows, Kept, Known}
 use Rattle.par_board.proofs.Shows.{later_now}

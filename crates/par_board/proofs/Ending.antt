@@ -7,7 +7,7 @@ use native.Mathlib.Decide.{ℕ_discrete}
 use Rattle.par_board.specs.Calls.{OpensNothing, OwnsAll, IsLast}
 use Rattle.std.specs.Prelude.{Option, None}
 use Rattle.atomic_table.specs.Table.{State, Final, Seen}
-use Rattle.par_board.specs.Seen.{Flight, settled, offering, collecting, Owned, not_owned, owned_free, owned_open, owned_merged, Held, not_held, held_over, Kind, step_fill, step_offer, step_claim, step_finish, step_take, step_close, step_load, Note, Sight, owns_at, holds_at, all_parts}
+use Rattle.par_board.specs.Seen.{not_owned, owned_free, owned_merged, owns_at, all_parts}
 use Rattle.par_board.specs.declared.answers.NodeState.{NodeState}
 use Rattle.par_board.specs.declared.answers.NodeState.TheVariants.{Free, Filling, Offered, Taken, Done, Merging, Merged}
 use Rattle.par_board.specs.Words.{state_of, code}

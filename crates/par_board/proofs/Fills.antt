@@ -6,14 +6,14 @@ use prog.Atomic.{either}
 use Rattle.std.specs.Prelude.{Option, None, slice_index}
 use Rattle.atomic_table.specs.Table.{State, takes, step, Allows}
 use Rattle.atomic_table.proofs.Lists.{exchanged, set_here, set_else}
-use Rattle.par_board.specs.Seen.{Flight, settled, offering, collecting, Owned, not_owned, owned_free, owned_open, owned_merged, Held, not_held, held_over, Kind, step_fill, step_offer, step_claim, step_finish, step_take, step_close, step_load, Note, Sight, owns_at, holds_at, all_parts}
+use Rattle.par_board.specs.Seen.{offering, Owned, not_owned, owned_free, owned_open, step_fill, owns_at, holds_at}
 use Rattle.par_board.specs.declared.answers.NodeState.{NodeState}
 use Rattle.par_board.specs.declared.answers.NodeState.TheVariants.{Free, Filling, Offered, Taken, Done, Merging, Merged}
 use Rattle.par_board.specs.Words.{pack, lo_of, hi_of, code}
 use Rattle.par_board.specs.Tree.{below}
 use Rattle.par_board.specs.Rule.{Plain, Cell, hidden, hides, entry, owns_of, holds_of, Lives, Kept, Known}
 use Rattle.par_board.specs.Plays.{Seated, own_below, after_fill, filled}
-use Rattle.par_board.specs.Calls.{noted, looks, merge, fresh, left_of, right_of, joined}
+use Rattle.par_board.specs.Calls.{noted}
 use Rattle.par_views.proofs.Puts.{put, at_put, put_here}
 use Rattle.par_board.proofs.Cells.{Blank, face_blank, home_blank, loose, unowned, owned_by, Moves, moved}
 use Rattle.par_board.proofs.Changes.{Goes}

@@ -9,13 +9,13 @@ use prog.Atomic.{either}
 use Rattle.std.specs.Prelude.{Option, None, Some, slice_index}
 use Rattle.atomic_table.specs.Table.{State, takes, gives, step, Allows, rest}
 use Rattle.atomic_table.proofs.Lists.{exchanged, set_here, set_else}
-use Rattle.par_board.specs.Seen.{Flight, settled, offering, collecting, Owned, not_owned, owned_free, owned_open, owned_merged, Held, not_held, held_over, Kind, step_fill, step_offer, step_claim, step_finish, step_take, step_close, step_load, Note, Sight, owns_at, holds_at, all_parts}
+use Rattle.par_board.specs.Seen.{Flight, settled, offering, collecting, Owned, not_owned, owned_open, owned_merged, Kind, step_offer, step_take, step_close, owns_at}
 use Rattle.par_board.specs.declared.answers.NodeState.{NodeState}
 use Rattle.par_board.specs.declared.answers.NodeState.TheVariants.{Free, Filling, Offered, Taken, Done, Merging, Merged}
 use Rattle.par_board.specs.Words.{pack, state_of, lo_of, hi_of, code}
-use Rattle.par_board.specs.Rule.{Plain, Cell, hides, entry, home_at, home_of, Later, Kept, Known}
+use Rattle.par_board.specs.Rule.{Plain, Cell, hides, entry, home_at, home_of, Kept, Known}
 use Rattle.par_board.specs.Plays.{Seated, LastRead, own, OpenedOver, offered, took, closed}
-use Rattle.par_board.specs.Calls.{noted, looks, merge, fresh, left_of, right_of, joined}
+use Rattle.par_board.specs.Calls.{noted}
 use Rattle.par_board.proofs.Cells.{loose, unowned, owned_by}
 use Rattle.par_board.proofs.Changes.{last_fits, Goes}
 use Rattle.par_board.proofs.Shows.{shown}

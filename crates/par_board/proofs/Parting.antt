@@ -1,5 +1,5 @@
 -- How the board starts, a load, and how seats are cut off and joined.
-use Rattle.std.proofs.Common.{◌≡◌, ◌≢◌, ℕ, zero, suc, ◌<◌, ◌≤◌, List, [], ◌∷◌, ◌++◌, map, length, get_or, set, replicate, sym, refl, ap, ◌∙◌, subst, ◌⊎◌, inl, inr, ⊎_elim, arith, Bool, true, cond, eqb, eq-eqb, ne_eqb, true≢false, length-set}
+use Rattle.std.proofs.Common.{◌≡◌, ◌≢◌, ℕ, zero, suc, ◌<◌, ◌≤◌, List, [], ◌∷◌, ◌++◌, map, length, get_or, set, replicate, sym, refl, ap, ◌∙◌, subst, ⊎_elim, arith, Bool, true, cond, eqb, eq-eqb, ne_eqb, true≢false, length-set}
 use mathlib.Core.Logic.{dite}
 use mathlib.Core.Option.{some, none, some-injective, some-ne-none}
 use native.Mathlib.Decide.{ℕ_discrete}
@@ -7,11 +7,11 @@ use lib.ListN.{get_elem?, length-map, length-replicate}
 use Rattle.std.specs.Prelude.{Option, None, slice_index}
 use Rattle.atomic_table.specs.Table.{State, step, keeps, Allows, Splits, Joins, opening}
 use Rattle.atomic_table.proofs.Lists.{at_set, set_else, at_longer}
-use Rattle.par_board.specs.Seen.{Flight, settled, offering, collecting, Owned, not_owned, owned_free, owned_open, owned_merged, Held, not_held, held_over, Kind, step_fill, step_offer, step_claim, step_finish, step_take, step_close, step_load, Note, Sight, owns_at, holds_at, all_parts}
+use Rattle.par_board.specs.Seen.{Owned, not_owned, owned_free, owned_open, owned_merged, not_held, held_over, step_load, owns_at, holds_at, all_parts}
 use Rattle.par_board.specs.Rule.{Plain, Cell, hidden, idle, entry, owns_of, Lives, Knows, Kept, Known, begun, spent}
 use Rattle.par_board.specs.Plays.{Seated, looked}
-use Rattle.par_board.specs.Calls.{noted, looks, merge, fresh, left_of, right_of, joined}
-use Rattle.par_views.proofs.Views.{in_range, at_end, each_set}
+use Rattle.par_board.specs.Calls.{noted, merge, left_of, right_of, joined}
+use Rattle.par_views.proofs.Views.{in_range, at_end}
 use Rattle.par_board.proofs.Cells.{lives_on, loose, held_by, unowned, owned_by}
 use Rattle.par_board.proofs.Changes.{unmoved}
 use Rattle.par_board.proofs.Shows.{shown_most}

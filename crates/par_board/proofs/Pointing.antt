@@ -1,19 +1,17 @@
 -- The rule says what it means of nodes, seats and slots.
-use Rattle.std.proofs.Common.{◌≡◌, ◌≢◌, ℕ, suc, ◌<◌, ◌≤◌, ◌⊎◌, inl, inr, ⊎_elim, Bool, List, sym, refl, ap, ◌∙◌, subst, arith, true, false, true≢false, cond}
+use Rattle.std.proofs.Common.{◌≡◌, ◌≢◌, ℕ, suc, ◌<◌, ◌⊎◌, inl, inr, ⊎_elim, Bool, sym, refl, ap, ◌∙◌, subst, arith, true, false, true≢false}
 use mathlib.Core.Logic.{dite}
 use mathlib.Core.Option.{some, none}
-use mathlib.Core.Option as maybe
 use native.Mathlib.Decide.{ℕ_discrete}
 use lib.ListN.{get_elem?}
 use Rattle.std.specs.Prelude.{Option, Some, None, slice_index}
 use Rattle.atomic_table.specs.Table.{State}
 use Rattle.par_board.specs.declared.answers.NodeState.{NodeState}
 use Rattle.par_board.specs.declared.answers.NodeState.TheVariants.{Free, Filling, Offered, Taken, Done, Merging, Merged}
-use Rattle.par_board.specs.Words.{state_of, lo_of, hi_of, pack, code}
-use Rattle.par_board.specs.Tree.{below}
-use Rattle.par_board.specs.Seen.{Owned, not_owned, owned_free, owned_open, owned_merged, settled, offering, collecting, not_held, held_over, Note, owns_at, holds_at}
+use Rattle.par_board.specs.Words.{state_of, pack, code}
+use Rattle.par_board.specs.Seen.{Owned, not_owned, not_held, held_over, owns_at, holds_at}
 use Rattle.par_board.specs.Rule.{Plain, Cell, hides, entry, face, home_at, home_of, Kept, Known}
-use Rattle.par_board.specs.Points.{HasSpan, OwnedSays, IsKeptBack, NoteHolds, SlotFits, EachLive, JustOne, Points}
+use Rattle.par_board.specs.Points.{HasSpan, OwnedSays, IsKeptBack, SlotFits, EachLive, JustOne, Points}
 use Rattle.par_board.proofs.Cells.{loose, held_by, unowned, owned_by}
 use Rattle.par_board.proofs.Shows.{shown, shown_most}
 use Rattle.par_board.proofs.Sums.{last_one}

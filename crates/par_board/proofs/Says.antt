@@ -2,14 +2,14 @@
 use Rattle.std.proofs.Common.{◌≡◌, ℕ, ◌+◌, ◌<◌, arith, [], ◌∷◌, List, length, true, false, sym, refl, ap, ◌∙◌, subst}
 use Rattle.std.specs.Prelude.{Option, None, Some}
 use Rattle.atomic_table.specs.Table.{rest}
-use Rattle.par_board.specs.Seen.{Flight, settled, offering, collecting, Owned, not_owned, owned_free, owned_open, owned_merged, Held, not_held, held_over, Kind, step_fill, step_offer, step_claim, step_finish, step_take, step_close, step_load, Note, Sight, owns_at, holds_at, all_parts}
+use Rattle.par_board.specs.Seen.{settled, offering, collecting, Owned, not_owned, owned_free, owned_open, owned_merged, Held, not_held, held_over, step_fill, step_offer, step_claim, step_finish, step_take, step_close, step_load, Note, owns_at, holds_at}
 use Rattle.par_board.specs.Words.{state_of, lo_of, hi_of}
 use Rattle.par_board.specs.Tree.{below}
 use Rattle.atomic_table.specs.Seated.{TableId}
-use Rattle.par_board.specs.Seen.{Seen, Note}
+use Rattle.par_board.specs.Seen.{Note}
 use Rattle.par_board.specs.Rule.{Plain, Known, located}
 use Rattle.par_board.specs.Plays.{Seated, grip, own, own_below, after_fill, after_claim, HeldOver}
-use Rattle.par_board.specs.Calls.{noted, looks, Stepped, OwnsTree, IsClaimed, IsOffered, IsFinished, IsCollected}
+use Rattle.par_board.specs.Calls.{noted, looks, Stepped, IsClaimed, IsOffered, IsFinished, IsCollected}
 use Rattle.par_board.proofs.Singles.{grip_here, grip_else, own_here, own_else}
 use mathlib.Core.Logic.{dite}
 use native.Mathlib.Decide.{ℕ_discrete}

@@ -1,8 +1,8 @@
 -- Two nodes of the tests, as they are cut off and as both are merged.
-use Rattle.std.proofs.Common.{◌≡◌, ◌≢◌, ℕ, ◌+◌, ◌<◌, Bool, true, false, ◌⊎◌, inl, inr, ⊎_elim, List, refl, sym, ap, ◌∙◌, subst, arith}
+use Rattle.std.proofs.Common.{◌≡◌, ℕ, ◌+◌, ◌<◌, Bool, true, false, ◌⊎◌, inl, inr, ⊎_elim, refl, sym, ap, ◌∙◌, subst, arith}
 use mathlib.Core.Logic.{dite}
 use native.Mathlib.Decide.{ℕ_discrete}
-use Rattle.par_board.specs.Seen.{Owned, not_owned, owned_free, owned_open, owned_merged, Held, not_held, Sight, owns_at}
+use Rattle.par_board.specs.Seen.{Owned, not_owned, owned_free, owned_open, owned_merged, Sight, owns_at}
 use Rattle.par_board.specs.Tree.{below}
 use Rattle.par_board.specs.Calls.{merge, joined, OpensNothing, IsOffered, IsClaimed}
 use Rattle.par_board.specs.Sharing.{Settled, OnlyTwo, HasCut, HasWhole}

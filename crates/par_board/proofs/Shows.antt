@@ -1,5 +1,5 @@
 -- What the word of a node says of its cell.
-use Rattle.std.proofs.Common.{◌≡◌, ◌≢◌, ℕ, ◌<◌, ◌≤◌, sym, refl, subst, arith}
+use Rattle.std.proofs.Common.{◌≡◌, ℕ, ◌<◌, ◌≤◌, sym, refl, subst, arith}
 use Rattle.std.specs.Prelude.{Option, slice_index}
 use Rattle.atomic_table.specs.Table.{State}
 use Rattle.par_board.specs.declared.answers.NodeState.{NodeState}

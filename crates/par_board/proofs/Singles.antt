@@ -5,13 +5,12 @@ use mathlib.Core.Option as maybe
 use lib.ListN.{get_elem?}
 use Rattle.std.specs.Prelude.{Option, slice_index}
 use Rattle.atomic_table.specs.Table.{State}
-use Rattle.par_board.specs.Seen.{Flight, settled, offering, collecting, Owned, not_owned, owned_free, owned_open, owned_merged, Held, not_held, held_over, Kind, step_fill, step_offer, step_claim, step_finish, step_take, step_close, step_load, Note, Sight, owns_at, holds_at, all_parts}
+use Rattle.par_board.specs.Seen.{Owned, not_owned, Held, not_held, Kind, owns_at, holds_at}
 use Rattle.par_board.specs.declared.answers.NodeState.{NodeState}
 use Rattle.par_board.specs.Words.{code}
 use Rattle.par_board.specs.Tree.{below}
-use Rattle.par_board.specs.Rule.{Plain, Cell, hidden, face, hides, owns_of, holds_of, home_of, Lives, Later, Kept, Known}
+use Rattle.par_board.specs.Rule.{Plain, Cell, hidden, face, hides, owns_of, holds_of, home_of, Lives, Kept, Known}
 use Rattle.par_board.specs.Plays.{own, grip}
-use Rattle.par_board.specs.Calls.{noted, looks, merge, fresh, left_of, right_of, joined}
 use Rattle.par_views.proofs.Puts.{put, at_put}
 use Rattle.par_board.proofs.Cells.{Moves, moved}
 use Rattle.par_board.proofs.Tables.{at_table, not_below}

@@ -1,5 +1,5 @@
 -- What the tree of nodes is like.
-use Rattle.std.proofs.Common.{◌+◌, ◌≡◌, ◌≢◌, ℕ, zero, suc, ◌*◌, ◌/◌, ◌<◌, sym, refl, ap, ◌∙◌, subst, arith, Bool, true, false, ◌||◌, eqb, eq-eqb, ne_eqb, true≢false}
+use Rattle.std.proofs.Common.{◌≡◌, ◌≢◌, ℕ, zero, suc, ◌*◌, ◌/◌, ◌<◌, sym, refl, ap, ◌∙◌, subst, arith, Bool, true, false, ◌||◌, eqb, eq-eqb, ne_eqb, true≢false}
 use mathlib.Core.Logic.{dite}
 use native.Mathlib.Decide.{ℕ_discrete}
 use Rattle.par_board.specs.Tree.{under, below, TreeLaws}

@@ -1,9 +1,9 @@
 -- What each step tells the seat that takes it.
-use Rattle.std.specs.Prelude.{◌≡◌, ◌≢◌, ℕ, ◌+◌, ◌≤◌, ◌∷◌, Bool, true, false, cond, eqb, List, [], Option, Some, None}
+use Rattle.std.specs.Prelude.{◌≡◌, ◌≢◌, ℕ, ◌≤◌, ◌∷◌, Bool, true, false, cond, eqb, List, Option, Some, None}
 use Rattle.atomic_table.specs.Table.{Me, Step, rest}
 use Rattle.par_board.specs.Words.{state_of, lo_of, hi_of}
 use Rattle.par_board.specs.Tree.{below, table}
-use Rattle.par_board.specs.Seen.{Owned, not_owned, owned_free, owned_open, owned_merged, settled, offering, collecting, Held, not_held, held_over, Kind, step_fill, step_offer, step_claim, step_finish, step_take, step_close, step_load, Note, owns_at, holds_at}
+use Rattle.par_board.specs.Seen.{Owned, not_owned, owned_free, owned_open, owned_merged, settled, offering, collecting, Held, not_held, held_over, Kind, step_fill, step_offer, step_claim, step_finish, step_take, step_close, Note, owns_at, holds_at}
 use Rattle.par_board.specs.Calls.{noted, looks}
 use Rattle.par_board.specs.Rule.{Plain, Known}
 

@@ -10,7 +10,7 @@ use Rattle.par_board.specs.declared.answers.NodeState.{NodeState}
 use Rattle.par_board.specs.declared.answers.NodeState.TheVariants.{Free, Filling, Offered, Taken, Done, Merging, Merged}
 use Rattle.par_board.specs.Words.{pack, state_of, lo_of, hi_of, code}
 use Rattle.par_board.specs.Tree.{below}
-use Rattle.par_board.specs.Seen.{Flight, settled, offering, collecting, Owned, not_owned, owned_free, owned_open, owned_merged, Held, not_held, held_over, Note, Sight, Seen, owns_at, holds_at, all_parts}
+use Rattle.par_board.specs.Seen.{settled, offering, collecting, Owned, not_owned, owned_free, owned_open, owned_merged, Held, not_held, held_over, Note, Sight, Seen, owns_at, holds_at, all_parts}
 use Rattle.par_board.specs.Calls.{fresh}
 
 -- what the table keeps for a seat: what it knows, with the job's plain data for the board

@@ -1,4 +1,4 @@
-use Rattle.std.proofs.Common.{rules, ◌≡◌, ℕ, [], sym, ap, ◌∙◌, subst, arith}
+use Rattle.std.proofs.Common.{rules, ◌≡◌, ℕ, [], sym, ap, ◌∙◌, subst}
 use Rattle.par_board.specs.Words.{lo_of, hi_of}
 use Rattle.par_board.specs.Loads.{IsPiece}
 use Rattle.par_board.specs.Rule.{located}

@@ -1,4 +1,4 @@
-use Rattle.std.proofs.Common.{rules, ◌≡◌, ℕ, ◌+◌, arith, Some, [], ◌∷◌, refl, sym, ap, ◌∙◌, subst, true}
+use Rattle.std.proofs.Common.{rules, ◌≡◌, ℕ, ◌+◌, arith, Some, [], ◌∷◌, sym, ap, ◌∙◌, subst, true}
 use Rattle.par_board.specs.Words.{lo_of, hi_of}
 use Rattle.par_board.specs.Seen.{owns_at, owned_open, settled, step_load}
 use Rattle.par_board.specs.Calls.{IsCollected}

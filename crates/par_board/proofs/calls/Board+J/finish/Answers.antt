@@ -1,4 +1,4 @@
-use Rattle.std.proofs.Common.{rules, ◌≡◌, ℕ, Some, [], ◌∷◌, refl, sym, ap, ◌∙◌, subst, true, false}
+use Rattle.std.proofs.Common.{rules, ◌≡◌, ℕ, Some, [], ◌∷◌, refl, ◌∙◌, subst, true, false}
 use Rattle.par_board.specs.Words.{lo_of, hi_of}
 use Rattle.par_board.specs.Seen.{holds_at, held_over}
 use Rattle.par_board.specs.Calls.{IsFinished}

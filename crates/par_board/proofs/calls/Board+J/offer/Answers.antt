@@ -1,7 +1,5 @@
-use Rattle.std.proofs.Common.{rules, ◌≡◌, ℕ, ◌+◌, ◌<◌, ◌≤◌, length, arith, Some, [], ◌∷◌, sym, ap, ◌∙◌, subst, true, false}
+use Rattle.std.proofs.Common.{rules, ◌≡◌, ℕ, ◌+◌, ◌<◌, ◌≤◌, length, arith, Some, [], ◌∷◌, sym, ap, ◌∙◌, subst, false}
 use Rattle.par_board.specs.Words.{pack, state_of, lo_of, hi_of}
-use Rattle.par_board.specs.Tree.{below}
-use Rattle.par_board.specs.Seen.{owns_at, owned_free}
 use Rattle.par_board.specs.Calls.{IsOffered, OwnsTree}
 use Rattle.par_board.specs.Rule.{located}
 use Rattle.par_board.proofs.Tables.{state_pack, lo_pack, hi_pack}

@@ -1,4 +1,4 @@
-use Rattle.std.proofs.Common.{rules, arith, ℕ, ◌≤◌, refl, sym, subst, ap, ◌∙◌, length}
+use Rattle.std.proofs.Common.{arith, ℕ, ◌≤◌, refl, sym, subst, ap, ◌∙◌, length}
 use Rattle.std.proofs.lemmas.Grind.{common_steps}
 use Rattle.par_board.specs.Seen.{owned_free, not_owned, not_held, owns_at, holds_at}
 use Rattle.par_board.proofs.Parting.{starts, zeros_of}
