@@ -77,6 +77,7 @@ fn cut_off(
     ensures of { seat.new.of ≡ board.now.of }
     ensures cut { IfSome result (λ count. HasCut count seat.new.owns seat.new.holds × (seat.new.parts ≡ seat.old.parts)) }
 {
+    tree_laws();
     board.offer(seat, 1, whole);
     let Claim::Mine(mine) = board.claim(seat, 1) else {
         return None;
@@ -227,6 +228,7 @@ fn race<R: Threads + Sync>(
     requires whole { IsSpan (⟦<RangeSplitter as Splitter>⟧.items job.now.source) (⟦<RangeSplitter as Splitter>⟧.lo whole) (⟦<RangeSplitter as Splitter>⟧.items whole) }
 {
     let (board, mut one) = Board::open(alloc, job, job.source.remaining())?;
+    board.points();
     board.offer(&mut one, 1, whole);
     let two = board.split_seat(alloc, &mut one)?;
     let shared = &board;
