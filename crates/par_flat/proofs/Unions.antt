@@ -63,8 +63,8 @@ module _ {K : Type 0} (eq : K → K → Bool) (bucket : K → ℕ) (alike : (x y
   blocks_apart es others lists taken rest h e are j f q =
       let here : bucket f.0 ≡ length taken = of_bucket_at bucket (length taken) others j f (are (length taken) (keys_of others) (ap (λ ls. slice_get ls (length taken)) (sym e) ∙ slice_get-middle taken (keys_of others) rest)) q in
       let absent : list_any (eq f.0) (joined taken) ≡ false = in_none f.0 taken (λ i ks p.
-          let within : i < length taken = slice_get_within taken i ks p in
-          other_bucket f.0 i ks (are i ks (ap (λ ls. slice_get ls i) (sym e) ∙ (slice_get-left taken (keys_of others ∷ rest) i within ∙ p))) (λ (s : bucket f.0 ≡ i). absurd (omega arith))) in
+      let within : i < length taken = slice_get_within taken i ks p in
+      other_bucket f.0 i ks (are i ks (ap (λ ls. slice_get ls i) (sym e) ∙ (slice_get-left taken (keys_of others ∷ rest) i within ∙ p))) (λ (s : bucket f.0 ≡ i). absurd (omega arith))) in
       none_from (lookup (eq f.0) es) (member (eq f.0) es ∙ (ap (list_any (eq f.0)) h ∙ absent))
 
 pub distinct-inserted : {K : Type 0} (eq : K → K → Bool) (o : IsEquivalence eq) (xs : List K) → IsDistinct eq (insert_keys eq [] xs)

@@ -93,12 +93,7 @@ fn home_of(shift: u32, size: u32, hash: u32) -> usize
 }
 
 /// Puts a leaf into the first free slot from its home to the block's end, or else past the end.
-fn put_in_block(
-    slots: &mut Vec<Slot>,
-    shift: u32,
-    size: u32,
-    leaf: Leaf,
-) -> Result<(), Memory>
+fn put_in_block(slots: &mut Vec<Slot>, shift: u32, size: u32, leaf: Leaf) -> Result<(), Memory>
     requires block { IsBlock shift size slots.old.items }
     ensures block { IsBlock shift size slots.new.items }
     ensures count { OnOk result (taken slots.new.items ≡ taken slots.old.items + 1) }
