@@ -286,6 +286,8 @@ pub fn line_of(alloc: Global, tokens: &[Token]) -> Result<Line, ParseError>
     ensures found { IfOk result (λ x. Says (view x) tokens.now) }
     ensures one { (x y : Said) → Says x tokens.now → Says y tokens.now → x ≡ y }
 
+    ensures read { Gives view result (said tokens.now) }
+
     // A refusal comes only where the tokens say nothing, or memory is wanting.
     ensures only { (x : Said) → Says x tokens.now → Gives view result (Some x) }
 {
