@@ -18,6 +18,3 @@ pub use kinds::{ValueKind, kind_of};
 pub use place::judge_line;
 pub use standing::Place;
 pub use uses::Want;
-
-#[cfg(test)]
-mod tests;

@@ -1,70 +1,17 @@
-use crate::{Fault, LineStop, Place, judge_line};
-use pipe_expr::Token;
-use pipe_text::{LineFault, first_line, read_line};
-use pipe_tokens::meanings;
+use crate::{ParseStop, read_lines};
 use std::alloc::{AllocError, Global};
 
-// Refusals by their numbers, 50 for want of memory.
-fn number(fault: Fault) -> u32 {
-    match fault {
-        Fault::Step => 4,
-        Fault::Shape => 5,
-        Fault::Number => 6,
-        Fault::Depth => 7,
-        Fault::Name => 8,
-        Fault::Type => 9,
-        Fault::Zero => 10,
-        Fault::Columns => 11,
-        Fault::Steps => 12,
-    }
-}
-
-// The place after a line.
-fn after(alloc: Global, place: &Place, tokens: &[Token]) -> Result<Place, u32> {
-    match judge_line(alloc, place, tokens) {
-        Ok((_, next)) => Ok(next),
-        Err(LineStop::Fault(fault)) => Err(number(fault)),
-        Err(LineStop::Memory) => Err(50),
-    }
-}
-
-fn tokens_of(alloc: Global, place: &Place, line: &[u8]) -> Result<Vec<Token>, u32> {
-    match read_line(alloc, line) {
-        Ok(lexemes) => match meanings(alloc, place.version(), &lexemes) {
-            Ok(tokens) => Ok(tokens),
-            Err(_) => Err(50),
-        },
-        Err(LineFault::Utf8) => Err(1),
-        Err(LineFault::Token) => Err(2),
-        Err(LineFault::Long) => Err(3),
-        Err(LineFault::Memory) => Err(50),
-    }
-}
-
-// 100 times the line, and the kind of its refusal; 0 where each line is taken and a last step was there.
+// 100 times the line, and the kind of its refusal; 0 where the text reads, and 50 for want of memory.
 fn refusal(alloc: Global, text: &[u8]) -> u32 {
-    let mut place = Place::start(alloc);
-    let mut at = 0u32;
-    let mut rest = text;
-    while let Some((line, behind)) = first_line(rest) {
-        at = at.saturating_add(100);
-        rest = behind;
-        match tokens_of(alloc, &place, line) {
-            Err(kind) => return at.saturating_add(kind),
-            Ok(tokens) => {
-                if !tokens.is_empty() {
-                    match after(alloc, &place, &tokens) {
-                        Ok(next) => place = next,
-                        Err(kind) => return at.saturating_add(kind),
-                    }
-                }
-            }
-        }
+    if text.len() >= 65536 {
+        return 51;
     }
-    if place.has_ended() {
-        0
-    } else {
-        at.saturating_add(113)
+    match read_lines(alloc, text) {
+        Ok(_) => 0,
+        Err(ParseStop::Refused(refusal)) => {
+            refusal.line.saturating_mul(100).saturating_add(u32::from(refusal.kind))
+        }
+        Err(ParseStop::Memory) => 50,
     }
 }
 
