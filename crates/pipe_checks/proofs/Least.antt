@@ -184,9 +184,9 @@ pub one_refused : (p : Spot) (j k : Fault) (ts : List Token) → Refuses p j ts 
 one_refused p j k ts a b = elim (cases_Bool (nat_lt (rank j) (rank k))) [
   | inl e ↦ let lt : rank j < rank k = grind (arith, e) in absurd (b.1 j lt a.0)
   | inr e ↦ elim (cases_Bool (nat_lt (rank k) (rank j))) [
-      | inl g ↦ let lt : rank k < rank j = grind (arith, g) in absurd (a.1 k lt b.0)
-      | inr g ↦ same_rank j k (grind (arith, e, g))
-    ]
+    | inl g ↦ let lt : rank k < rank j = grind (arith, g) in absurd (a.1 k lt b.0)
+    | inr g ↦ same_rank j k (grind (arith, e, g))
+  ]
 ]
 
 -- what stops a line is its least fault

@@ -84,11 +84,7 @@ fn range_name(alloc: Global) -> Result<Words, Memory>
 }
 
 /// The columns after a line. Takes memory for them.
-pub fn columns_after(
-    alloc: Global,
-    columns: &[Column],
-    line: &Line,
-) -> Result<Vec<Column>, Memory>
+pub fn columns_after(alloc: Global, columns: &[Column], line: &Line) -> Result<Vec<Column>, Memory>
     ensures { IfOk result (λ v. v.items ≡ columns_after columns.now (view line.now)) }
 {
     match line {
@@ -99,15 +95,21 @@ pub fn columns_after(
         Line::Step(Step::Map(fields)) => made_columns(alloc, columns, fields),
         Line::Step(Step::Collect(fields, _)) => made_columns(alloc, columns, fields),
         Line::Step(Step::ZipWithIndex(name)) => and_number(alloc, copies(alloc, columns)?, name),
-        Line::Step(Step::ZipRange {
-            a: _,
-            b: _,
-            c: _,
-            name,
-        }) => and_number(alloc, copies(alloc, columns)?, name),
-        Line::Step(Step::Scan { how: _, of: _, name }) => {
-            and_number(alloc, Vec::new(alloc), name)
-        }
+        Line::Step(
+            Step::ZipRange {
+                a: _,
+                b: _,
+                c: _,
+                name,
+            },
+        ) => and_number(alloc, copies(alloc, columns)?, name),
+        Line::Step(
+            Step::Scan {
+                how: _,
+                of: _,
+                name,
+            },
+        ) => { and_number(alloc, Vec::new(alloc), name) }
         Line::Step(Step::GroupBy { keys, aggs }) => {
             total_columns(alloc, made_columns(alloc, columns, keys)?, aggs)
         }

@@ -8,8 +8,8 @@ ghost use Rattle.pipe_checks.specs.Columns.{columns_after as list_after};
 ghost use Rattle.pipe_checks.specs.Places.{Accepts, IsRefused, fault_of, faulty, has_one_key, is_last, is_source, is_step, moves, next, said_in, split_fits, split_known, spot, stands, start, stuck, suits, misnamed, mistyped, too_deep, too_many, too_wide, version_after, word_stands, zero, Wrong, ruled, unread, verdict, StopsAs};
 
 use crate::columns::{are_distinct, columns_after};
-use crate::kinds::{ByInts, DividesWell, KindsFit, NamesKnown, Shallow, has, holds_texts};
 use crate::fault::{Fault, LineStop};
+use crate::kinds::{ByInts, DividesWell, KindsFit, NamesKnown, Shallow, has, holds_texts};
 use crate::standing::Place;
 use crate::uses::every;
 use par_laws::{Keep, Memory};
@@ -88,12 +88,14 @@ fn moves(line: &Line) -> bool
 {
     match line {
         Line::Source(Source::Range { a: _, b: _, c }) => *c != 0,
-        Line::Step(Step::ZipRange {
-            a: _,
-            b: _,
-            c,
-            name: _,
-        }) => *c != 0,
+        Line::Step(
+            Step::ZipRange {
+                a: _,
+                b: _,
+                c,
+                name: _,
+            },
+        ) => *c != 0,
         Line::Step(Step::FlatMap { column: _, sep }) => !sep.as_str().is_empty(),
         _ => true,
     }
@@ -383,11 +385,7 @@ fn beside(line: Line, settled: Result<Place, LineStop>) -> Result<(Line, Place),
 
 /// What the tokens of a line say in its place, and the place after it; or the least fault that the line has there.
 /// Linear in the line for each column.
-pub fn judge_line(
-    alloc: Global,
-    place: &Place,
-    tokens: &[Token],
-) -> Result<(Line, Place), LineStop>
+pub fn judge_line(alloc: Global, place: &Place, tokens: &[Token]) -> Result<(Line, Place), LineStop>
     ensures accepted { IfOk result (λ x. Accepts (spot place.now) (view x.0) tokens.now) }
     ensures next { IfOk result (λ x. spot x.1 ≡ next (spot place.now) (view x.0)) }
     ensures refused { IfErr result (λ e. IsRefused (spot place.now) e tokens.now) }

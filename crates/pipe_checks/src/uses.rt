@@ -69,7 +69,11 @@ fn step_passes<A: Ask>(ask: &A, step: &Step) -> bool
         Step::Collect(fields, e) => fields_pass(ask, fields) && ask.passes(Want::Truth, e),
         Step::TakeWhile(e) => ask.passes(Want::Truth, e),
         Step::DropWhile(e) => ask.passes(Want::Truth, e),
-        Step::Scan { how: _, of, name: _ } => ask.passes(Want::Number, of),
+        Step::Scan {
+            how: _,
+            of,
+            name: _,
+        } => ask.passes(Want::Number, of),
         Step::GroupBy { keys, aggs } => fields_pass(ask, keys) && totals_pass(ask, aggs),
         _ => true,
     }

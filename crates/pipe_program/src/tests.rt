@@ -9,7 +9,10 @@ fn refusal(alloc: Global, text: &[u8]) -> u32 {
     match read_lines(alloc, text) {
         Ok(_) => 0,
         Err(ParseStop::Refused(refusal)) => {
-            refusal.line.saturating_mul(100).saturating_add(u32::from(refusal.kind))
+            refusal
+                .line
+                .saturating_mul(100)
+                .saturating_add(u32::from(refusal.kind))
         }
         Err(ParseStop::Memory) => 50,
     }
@@ -63,8 +66,14 @@ fn first_kinds(rt: HostRuntime) {
         (b"pipeline 3", 105),
         (b"from range 0 until 3\nfilter x >\nsize", 205),
         (b"from range 0 until 3\nfilter x / x = 1", 205),
-        (b"from range 0 until 3\ngroupBy x as a, x as b : count as n", 205),
-        (b"from range 0 until 3\ntake 9223372036854775808\nfilter x >", 206),
+        (
+            b"from range 0 until 3\ngroupBy x as a, x as b : count as n",
+            205,
+        ),
+        (
+            b"from range 0 until 3\ntake 9223372036854775808\nfilter x >",
+            206,
+        ),
     ];
     for (text, wanted) in rows {
         assert_eq!(rt; refusal(rt.alloc(), text), wanted);
@@ -75,7 +84,10 @@ fn first_kinds(rt: HostRuntime) {
 fn later_kinds(rt: HostRuntime) {
     let rows: [(&[u8], u32); 26] = [
         (b"from range 0 until -9223372036854775809", 106),
-        (b"from range 0 until 3\nfilter x / 99999999999999999999 = y", 206),
+        (
+            b"from range 0 until 3\nfilter x / 99999999999999999999 = y",
+            206,
+        ),
         (b"from range 0 until 99999999999999999999 by", 105),
         (b"from range 0 until 3\nfilter y > 1\nsize", 208),
         (b"from csv a:int, a:text", 108),
@@ -181,8 +193,14 @@ fn columns(rt: HostRuntime) -> Result<(), AllocError> {
     assert_eq!(rt; wide(rt.alloc(), 65, b"print")?, 111);
     assert_eq!(rt; wide(rt.alloc(), 64, b"zipWithIndex as i\nprint")?, 211);
     assert_eq!(rt; wide(rt.alloc(), 63, b"zipWithIndex as i\nprint")?, 0);
-    assert_eq!(rt; wide(rt.alloc(), 64, b"zip range 0 until 1 by 1 as i\nprint")?, 211);
-    assert_eq!(rt; wide(rt.alloc(), 64, b"zip range 0 until 1 by 0 as i\nprint")?, 210);
+    assert_eq!(rt;
+        wide(rt.alloc(), 64, b"zip range 0 until 1 by 1 as i\nprint")?,
+        211
+    );
+    assert_eq!(rt;
+        wide(rt.alloc(), 64, b"zip range 0 until 1 by 0 as i\nprint")?,
+        210
+    );
     assert_eq!(rt; wide(rt.alloc(), 64, b"zipWithIndex as c01\nprint")?, 208);
     Ok(())
 }

@@ -137,11 +137,7 @@ impl Entry for Keys {
 }
 
 // An aggregate with the name behind it.
-fn with_name(
-    alloc: Global,
-    how: Aggregate,
-    tokens: &[Token],
-) -> Result<(Agg, &[Token]), ParseError>
+fn with_name(alloc: Global, how: Aggregate, tokens: &[Token]) -> Result<(Agg, &[Token]), ParseError>
     ensures shorter { IfOk result (λ x. length x.1.now < length tokens.now) }
     ensures gives { Gives (λ x. (agg_view x.0, x.1.now)) result (fill simple_at (Fixed JointAs ∷ A AName ∷ []) (λ n. (how_view how, n)) tokens.now) }
 {
@@ -151,11 +147,7 @@ fn with_name(
 }
 
 // An aggregate behind its first word.
-fn behind_word(
-    alloc: Global,
-    verb: Verb,
-    rest: &[Token],
-) -> Result<(Agg, &[Token]), ParseError>
+fn behind_word(alloc: Global, verb: Verb, rest: &[Token]) -> Result<(Agg, &[Token]), ParseError>
     ensures shorter { IfOk result (λ x. length x.1.now < length rest.now) }
     ensures gives { Gives (λ x. (agg_view x.0, x.1.now)) result (form_at simple_at (total_form verb) rest.now) }
 {

@@ -64,11 +64,7 @@ pub(crate) fn text(alloc: Global, tokens: &[Token]) -> Result<(Words, &[Token]),
 }
 
 // A line of one expression, behind its first word.
-fn behind_expr(
-    alloc: Global,
-    verb: Verb,
-    rest: &[Token],
-) -> Result<(Line, &[Token]), ParseError>
+fn behind_expr(alloc: Global, verb: Verb, rest: &[Token]) -> Result<(Line, &[Token]), ParseError>
     ensures { Gives (λ x. (view x.0, x.1.now)) result (form_at part_at (expr_form verb) rest.now) }
 {
     let (e, rest) = expression(alloc, rest)?;
@@ -95,11 +91,7 @@ fn behind_expr(
 }
 
 // A last step of more than one expression, or a line of one.
-fn behind_last(
-    alloc: Global,
-    verb: Verb,
-    rest: &[Token],
-) -> Result<(Line, &[Token]), ParseError>
+fn behind_last(alloc: Global, verb: Verb, rest: &[Token]) -> Result<(Line, &[Token]), ParseError>
     ensures { Gives (λ x. (view x.0, x.1.now)) result (form_at part_at (last_form verb) rest.now) }
 {
     match verb {
@@ -140,11 +132,7 @@ fn zip(alloc: Global, rest: &[Token]) -> Result<(Line, &[Token]), ParseError>
 }
 
 // A line without an expression, or one of the lines with them.
-fn behind_count(
-    alloc: Global,
-    verb: Verb,
-    rest: &[Token],
-) -> Result<(Line, &[Token]), ParseError>
+fn behind_count(alloc: Global, verb: Verb, rest: &[Token]) -> Result<(Line, &[Token]), ParseError>
     ensures { Gives (λ x. (view x.0, x.1.now)) result (form_at part_at (count_form verb) rest.now) }
 {
     match verb {
@@ -197,11 +185,7 @@ fn scan(alloc: Global, rest: &[Token]) -> Result<(Line, &[Token]), ParseError>
 }
 
 // What a line says behind its first word.
-fn behind_verb(
-    alloc: Global,
-    verb: Verb,
-    rest: &[Token],
-) -> Result<(Line, &[Token]), ParseError>
+fn behind_verb(alloc: Global, verb: Verb, rest: &[Token]) -> Result<(Line, &[Token]), ParseError>
     ensures { Gives (λ x. (view x.0, x.1.now)) result (form_at part_at (line_form verb) rest.now) }
 {
     match verb {

@@ -65,12 +65,7 @@ pub enum Step {
     /// The index, from 0, as last column.
     ZipWithIndex(Words),
     /// The items of a range as last column, as far as both go.
-    ZipRange {
-        a: i64,
-        b: i64,
-        c: i64,
-        name: Words,
-    },
+    ZipRange { a: i64, b: i64, c: i64, name: Words },
     /// The last row first.
     Reverse,
     /// The unit, and then each running value.

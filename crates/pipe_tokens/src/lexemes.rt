@@ -18,7 +18,9 @@ fn number(digits: &[u8]) -> u64
 {
     let mut n = 0u64;
     for c in digits {
-        n = n.saturating_mul(10).saturating_add(u64::from(c.saturating_sub(b'0')));
+        n = n
+            .saturating_mul(10)
+            .saturating_add(u64::from(c.saturating_sub(b'0')));
     }
     n
 }
