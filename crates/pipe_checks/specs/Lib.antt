@@ -1,0 +1,4 @@
+pub mod Uses
+pub mod Kinds
+pub mod Columns
+pub mod Places

@@ -1,0 +1,79 @@
+-- Which text reads as which pipeline, and how each other text is refused.
+use Rattle.std.specs.Prelude.{◌≡◌, ◌≢◌, ◌⊎◌, ◌++◌, ℕ, suc, true, false, List, [], ◌∷◌}
+use Rattle.std.specs.Str.Lines.{lines}
+use Rattle.pipe_text.specs.declared.line.LineFault.{LineFault}
+use Rattle.pipe_text.specs.declared.line.LineFault.TheVariants as faults
+use Rattle.pipe_text.specs.Token.{Lex}
+use Rattle.pipe_text.specs.Line.{IsRefused, ReadsAs}
+use Rattle.pipe_tokens.specs.Meaning.{all_meant}
+use Rattle.pipe_steps.specs.Said.{Said}
+use Rattle.pipe_program.specs.declared.refusal.ParseStop.{ParseStop}
+use Rattle.pipe_program.specs.declared.refusal.ParseStop.TheVariants as stops
+use Rattle.pipe_checks.specs.declared.fault.Fault.{Fault}
+use Rattle.pipe_checks.specs.declared.fault.LineStop.{LineStop}
+use Rattle.pipe_checks.specs.declared.fault.LineStop.TheVariants as lines_stop
+use Rattle.pipe_checks.specs.Places.{Spot, Accepts, Refuses, next, rank, start}
+
+-- a line that is neither blank nor a comment says this in its place
+abbrev pub Says : Spot → List ℕ → Said → Type 0
+Says p line y = (u : Lex) × (us : List Lex) × ReadsAs line (u ∷ us) × Accepts p y (all_meant p.version (u ∷ us))
+
+-- the lines from here on say these things; a line without a token is blank or a comment
+abbrev pub ReadsFrom : Spot → List (List ℕ) → List Said → Type 0
+ReadsFrom p [] ys = (p.ended ≡ true) × (ys ≡ [])
+ReadsFrom p (line ∷ rest) ys = (ReadsAs line [] × ReadsFrom p rest ys) ⊎ ((y : Said) × (more : List Said) × Says p line y × ReadsFrom (next p y) rest more × (ys ≡ y ∷ more))
+
+-- the kinds of the faults that come before a line's tokens
+abbrev pub early : LineFault → ℕ
+early faults.Utf8 = 1
+early faults.Token = 2
+early faults.Long = 3
+early faults.Memory = 0
+
+-- the least kind of refusal that a line has in its place
+abbrev pub RefusesLine : Spot → List ℕ → ℕ → Type 0
+RefusesLine p line kind =
+    ((e : LineFault) × (e ≢ faults.Memory) × IsRefused line e × (kind ≡ early e))
+    ⊎ ((u : Lex) × (us : List Lex) × (k : Fault) × ReadsAs line (u ∷ us) × Refuses p k (all_meant p.version (u ∷ us)) × (kind ≡ rank k))
+
+-- from number n on, this is the least line that has a refusal, and this its least kind; 13 behind the last line where no last step was there
+abbrev pub RefusedFrom : Spot → ℕ → List (List ℕ) → ℕ → ℕ → Type 0
+RefusedFrom p n [] at kind = (p.ended ≡ false) × (at ≡ n) × (kind ≡ 13)
+RefusedFrom p n (line ∷ rest) at kind =
+    ((at ≡ n) × RefusesLine p line kind)
+    ⊎ ((ReadsAs line [] × RefusedFrom p (suc n) rest at kind) ⊎ ((y : Said) × Says p line y × RefusedFrom (next p y) (suc n) rest at kind))
+
+-- the bytes say these things, line by line
+abbrev pub Reads : List ℕ → List Said → Type 0
+Reads text ys = ReadsFrom start (lines text) ys
+
+-- the bytes are refused on this line for this kind
+abbrev pub IsRefusedText : List ℕ → ℕ → ℕ → Type 0
+IsRefusedText text at kind = RefusedFrom start 1 (lines text) at kind
+
+-- why a text wasn't read
+abbrev pub Stops : List ℕ → ParseStop → Type 0
+Stops text (stops.Refused r) = IsRefusedText text r.line r.kind
+Stops text stops.Memory = Unit {0}
+
+-- why a line with this number wasn't taken in its place
+abbrev pub StopsLine : Spot → List ℕ → ℕ → ParseStop → Type 0
+StopsLine p line n (stops.Refused r) = (r.line ≡ n) × RefusesLine p line r.kind
+StopsLine p line n stops.Memory = Unit {0}
+
+-- the same of a line's faults, by their numbers
+abbrev pub early_as : ℕ → LineFault → ParseStop
+early_as at faults.Memory = stops.Memory
+early_as at faults.Utf8 = stops.Refused (record { line = at; kind = 1 })
+early_as at faults.Token = stops.Refused (record { line = at; kind = 2 })
+early_as at faults.Long = stops.Refused (record { line = at; kind = 3 })
+
+abbrev pub late_as : ℕ → LineStop → ParseStop
+late_as at (lines_stop.Fault k) = stops.Refused (record { line = at; kind = rank k })
+late_as at lines_stop.Memory = stops.Memory
+
+-- a line is taken: it is blank or a comment and nothing changes, or what it says is put behind what was said before
+abbrev pub Takes : Spot → List ℕ → List Said → Spot → List Said → Type 0
+Takes p line before q after =
+    (ReadsAs line [] × (q ≡ p) × (after ≡ before))
+    ⊎ ((y : Said) × Says p line y × (q ≡ next p y) × (after ≡ before ++ y ∷ []))
