@@ -11,14 +11,13 @@ use par_access::{
     aggregate_alone, count_alone, exists_alone, index_where_alone, last_index_where_alone,
     max_alone, sum_alone,
 };
+use par_combiner::ArrayCombiner;
 use par_edge::OpenGate;
-use par_jobs::{Listing, Nothing, SiftJob, Sifted};
 use par_laws::{FaultAt, Gather, Mapper, Memory, Monoid, Test, Tried, Verdict};
 use par_splitter::{ArraySplitter, Splitter};
-use par_task::{Marked, run_alone};
+use par_transform::filter_alone;
 use std::alloc::Global;
 use std::io;
-use std::marker::PhantomData;
 
 /// How fine a source is cut: a leaf has mostly at most `1 + n / (8 * LEVEL)` of its n items.
 const LEVEL: u32 = 4;
@@ -168,33 +167,6 @@ fn look_at(alloc: Global, orders: &[Order], large: &IsLarge) -> Result<Report, M
     })
 }
 
-/// What `of` makes of the items that pass, in order; or the first fault. It is a few lines over a job of the library.
-fn passing<S: Splitter, P: Test<S::Item>, F: Mapper<S::Item, i64>>(
-    alloc: Global,
-    source: S,
-    test: &P,
-    of: &F,
-) -> Result<Tried<Vec<i64>>, Memory>
-    requires begins { S.lo source ≡ 0 }
-    requires small { length (S.items source) ≤ 4194304 }
-{
-    let split = source.dup();
-    let job = SiftJob {
-        marked: Marked::over(&split, test, false),
-        passing: &Listing {
-            of,
-            out: PhantomData,
-        },
-        failing: &Nothing,
-    };
-    let marks = Marked::over(&split, test, false);
-    let (sifted, _) = run_alone(alloc, &job, test, &marks, source, LEVEL, &OpenGate)?;
-    Ok(match sifted {
-        Sifted::Got(kept, _) => Tried::Got(kept),
-        Sifted::Fell(fault) => Tried::Fault(fault),
-    })
-}
-
 fn main(rt: HostRuntime) -> io::Result<()> {
     let large = IsLarge { least: 10 };
     let sound = [
@@ -214,7 +186,14 @@ fn main(rt: HostRuntime) -> io::Result<()> {
         };
         println!(rt; "{:?}", report)?;
         let source = ArraySplitter::new(orders);
-        let Ok(worths) = passing(rt.alloc(), source, &large, &Worth) else {
+        let Ok((worths, _)) = filter_alone::<_, ArrayCombiner<i64>, _, _, _>(
+            rt.alloc(),
+            source,
+            &large,
+            &Worth,
+            LEVEL,
+            &OpenGate,
+        ) else {
             return Err(io::ErrorKind::OutOfMemory.into());
         };
         match worths {
