@@ -8,12 +8,12 @@ use std::io;
 use std::time::{Duration, Instant};
 
 /// How many keys each takes.
-pub const COUNT: u32 = 1_000_000;
+pub(crate) const COUNT: u32 = 1_000_000;
 
 const ROUNDS: usize = 3;
 
 /// Takes keys, each with a number where it has room for one.
-pub trait Keyed: Sized + Drop {
+pub(crate) trait Keyed: Sized + Drop {
     /// Without keys, and with room for all where room can be asked for.
     fn empty(alloc: Global) -> Result<Self, Memory>;
 
@@ -96,7 +96,7 @@ impl Keyed for BTreeMap<i64, u64> {
 
 /// The key with this number: the keys lie all over `i64`, and no two are equal.
 #[inline(always)]
-pub fn key(number: u32) -> i64 {
+pub(crate) fn key(number: u32) -> i64 {
     (number as i64).wrapping_mul(-7_046_029_254_386_353_131)
 }
 
@@ -123,7 +123,7 @@ fn find<M: Keyed>(map: &M) -> u32 {
 }
 
 /// Fills an empty one, finds the keys, and tells how many and the best times.
-pub fn measure<M: Keyed>(rt: &HostRuntime, name: &str) -> io::Result<()> {
+pub(crate) fn measure<M: Keyed>(rt: &HostRuntime, name: &str) -> io::Result<()> {
     let mut filled = Duration::MAX;
     let mut asked = Duration::MAX;
     let mut counts = (0, 0);

@@ -7,7 +7,7 @@ use par_trie::HashTrie;
 use std::alloc::Global;
 
 /// How many `Value` keys a trie holds, each with a number.
-pub fn held_in_a_trie(alloc: Global) -> Result<u32, Memory> {
+pub(crate) fn held_in_a_trie(alloc: Global) -> Result<u32, Memory> {
     let mut trie = HashTrie::new(alloc);
     for number in 0..COUNT {
         if trie.len() < MAX_ITEMS {
@@ -18,7 +18,7 @@ pub fn held_in_a_trie(alloc: Global) -> Result<u32, Memory> {
 }
 
 /// How many `Value` keys a table holds.
-pub fn held_in_a_table(alloc: Global) -> Result<u32, Memory> {
+pub(crate) fn held_in_a_table(alloc: Global) -> Result<u32, Memory> {
     let mut table = FlatTable::with_room(alloc, 0)?;
     for number in 0..COUNT {
         if table.len() < MAX_ITEMS {
