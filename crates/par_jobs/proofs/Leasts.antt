@@ -21,10 +21,10 @@ use Rattle.par_jobs.specs.declared.sift.Sifted.{Sifted}
 use Rattle.par_jobs.specs.declared.sift.Sifted.TheVariants as sifted
 use Rattle.par_jobs.proofs.Whole.{between_all}
 
-fault_none : (at : ℕ) (v : Verdict) → faults v ≡ false → fault_by at v ≡ None
-fault_none at Pass e = refl
-fault_none at Fail e = refl
-fault_none at (Fault kind) e = cc
+no_fault : (at : ℕ) (v : Verdict) → ((kind : ℕ) → v ≡ Fault kind → ⊥) → fault_by at v ≡ None
+no_fault at Pass h = refl
+no_fault at Fail h = refl
+no_fault at (Fault kind) h = absurd (h kind refl)
 
 faults_not : (v : Verdict) → ((kind : ℕ) → v ≡ Fault kind → ⊥) → faults v ≡ false
 faults_not Pass h = refl
@@ -35,10 +35,10 @@ faults_not (Fault kind) h = absurd (h kind refl)
 no_least : (vs : List Verdict) → Sound vs 0 (length vs) → least_fault vs ≡ None
 no_least vs s =
     let at = stop (map faults vs) in
-    fault_none at (get_or vs at Fail) (elim (cases_lt at (length vs)) [
-      | inl lt ↦ faults_not (get_or vs at Fail) (s at (omega arith) lt)
-      | inr ge ↦ ap faults (get_or-eq_default vs Fail {n = at} ge)
-    ])
+    elim (cases_lt at (length vs)) [
+      | inl lt ↦ no_fault at (get_or vs at Fail) (s at (omega arith) lt)
+      | inr ge ↦ ap (fault_by at) (get_or-eq_default vs Fail {n = at} ge)
+    ]
 
 -- and none of the whole list faults
 none_faults : (vs : List Verdict) → Sound vs 0 (length vs) → list_any faults vs ≡ false

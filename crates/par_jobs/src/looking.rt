@@ -2,7 +2,8 @@
 ghost use Rattle.std.specs.Prelude.{◌≡◌, map};
 ghost use Rattle.par_jobs.specs.Faults.{fault_at, fault_below};
 
-use par_laws::{FaultAt, Test, Verdict};
+use crate::fault::as_fault;
+use par_laws::{FaultAt, Test};
 use par_splitter::{Precise, Splitter};
 
 /// The fault of the item at that index of a source that begins at place 0, if there is such an item and it faults. It
@@ -12,11 +13,7 @@ pub fn fault_here<S: Precise, P: Test<S::Item>>(source: S, test: &P, at: u32) ->
 {
     let (_, mut rest) = source.cut_at(at);
     let item = rest.next()?;
-    match test.test(&item) {
-        Verdict::Fault(kind) => Some(FaultAt { at, kind }),
-        Verdict::Pass => None,
-        Verdict::Fail => None,
-    }
+    as_fault(test.test(&item), at)
 }
 
 /// The fault of the item below that index, if there is such an item and it faults. It tests that item alone, and no audit
