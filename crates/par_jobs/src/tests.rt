@@ -56,13 +56,13 @@ impl Mapper<i64, i64> for Same {
 // The numbers from a on and before b, if they are few.
 fn from_to(a: i64, b: i64) -> Option<RangeSplitter>
     ensures place { IfSome result (λ s. ⟦<RangeSplitter as Splitter>⟧.lo s ≡ 0) }
-    ensures few { IfSome result (λ s. length (⟦<RangeSplitter as Splitter>⟧.items s) ≤ 1000) }
+    ensures few { IfSome result (λ s. length (⟦<RangeSplitter as Splitter>⟧.items s) ≤ 3000) }
 {
-    if range_count(a, b, 1) > 1000 {
+    if range_count(a, b, 1) > 3000 {
         return None;
     }
     let source = RangeSplitter::new(a, b, 1);
-    if source.remaining() > 1000 {
+    if source.remaining() > 3000 {
         return None;
     }
     Some(source)
@@ -75,7 +75,7 @@ fn front(
     level: u32,
 ) -> Result<(Front<Vec<i64>>, Audit), Memory>
     requires place { ⟦<RangeSplitter as Splitter>⟧.lo source ≡ 0 }
-    requires few { length (⟦<RangeSplitter as Splitter>⟧.items source) ≤ 1000 }
+    requires few { length (⟦<RangeSplitter as Splitter>⟧.items source) ≤ 3000 }
     requires level { (1 ≤ level) × (level ≤ 64) }
 {
     let list = Listing {
@@ -91,7 +91,7 @@ fn span(
     test: &Rule,
 ) -> Result<(Spanned<Vec<i64>>, Audit), Memory>
     requires place { ⟦<RangeSplitter as Splitter>⟧.lo source ≡ 0 }
-    requires few { length (⟦<RangeSplitter as Splitter>⟧.items source) ≤ 1000 }
+    requires few { length (⟦<RangeSplitter as Splitter>⟧.items source) ≤ 3000 }
 {
     let list = Listing {
         of: &Same,
@@ -102,7 +102,7 @@ fn span(
 
 fn last(alloc: Global, source: RangeSplitter, test: &Rule) -> Result<u32, Memory>
     requires place { ⟦<RangeSplitter as Splitter>⟧.lo source ≡ 0 }
-    requires few { length (⟦<RangeSplitter as Splitter>⟧.items source) ≤ 1000 }
+    requires few { length (⟦<RangeSplitter as Splitter>⟧.items source) ≤ 3000 }
 {
     let (part, _) = last_alone(alloc, source, test, 4, &OpenGate)?;
     Ok(part)
@@ -110,14 +110,14 @@ fn last(alloc: Global, source: RangeSplitter, test: &Rule) -> Result<u32, Memory
 
 fn search(alloc: Global, source: RangeSplitter, test: &Rule) -> Result<(Sought, Audit), Memory>
     requires place { ⟦<RangeSplitter as Splitter>⟧.lo source ≡ 0 }
-    requires few { length (⟦<RangeSplitter as Splitter>⟧.items source) ≤ 1000 }
+    requires few { length (⟦<RangeSplitter as Splitter>⟧.items source) ≤ 3000 }
 {
     search_alone(alloc, source, test, 4, &OpenGate)
 }
 
 fn sift(alloc: Global, source: RangeSplitter, test: &Rule) -> Result<Sifted<Vec<i64>, u32>, Memory>
     requires place { ⟦<RangeSplitter as Splitter>⟧.lo source ≡ 0 }
-    requires few { length (⟦<RangeSplitter as Splitter>⟧.items source) ≤ 1000 }
+    requires few { length (⟦<RangeSplitter as Splitter>⟧.items source) ≤ 3000 }
 {
     let list = Listing {
         of: &Same,
@@ -469,7 +469,7 @@ fn leaf_that_is_overtaken<S: Precise, P: Test<S::Item>>(
 
 #[test]
 fn a_leaf_breaks_off_where_another_seat_lowered_the_flag(rt: HostRuntime) -> Result<(), Fail> {
-    let source = RangeSplitter::new(0, 3000, 1);
+    let source = from_to(0, 3000).ok_or("few")?;
     let rule = Rule {
         least: 3000,
         faulty: 100,
