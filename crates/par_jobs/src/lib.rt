@@ -35,9 +35,7 @@ mod stock;
 #[cfg(test)]
 mod tests;
 
-pub use alone::{
-    front_alone, gather_alone, last_alone, search_alone, sift_alone, spanned_alone,
-};
+pub use alone::{front_alone, gather_alone, last_alone, search_alone, sift_alone, spanned_alone};
 pub use builder::Builder;
 pub use front::{Front, FrontJob};
 pub use gather::GatherJob;

@@ -18,7 +18,11 @@ pub fn fault_here<S: Precise, P: Test<S::Item>>(source: S, test: &P, at: u32) ->
 
 /// The fault of the item below that index, if there is such an item and it faults. It tests that item alone, and no audit
 /// tells of it.
-pub fn fault_before<S: Precise, P: Test<S::Item>>(source: S, test: &P, above: u32) -> Option<FaultAt>
+pub fn fault_before<S: Precise, P: Test<S::Item>>(
+    source: S,
+    test: &P,
+    above: u32,
+) -> Option<FaultAt>
     ensures { result ≡ fault_below (map (P.verdict test.now) (S.items source)) above }
 {
     if above == 0 {
