@@ -1,5 +1,5 @@
 -- What a search found, and the list functions that it decides.
-use Rattle.std.proofs.Common.{◌≡◌, ◌∙◌, ℕ, ◌||◌, ◌&&◌, List, [], ◌∷◌, map, Bool, true, false, not, Some, None, refl, ap, sym}
+use Rattle.std.proofs.Common.{◌≡◌, ◌∙◌, ◌||◌, ◌&&◌, List, [], ◌∷◌, map, Bool, true, false, not, Some, None, refl, ap, sym}
 use Rattle.std.specs.List.{list_any, list_all}
 use Rattle.std.proofs.lemmas.Bool.{false≢true}
 use Rattle.par_laws.specs.declared.test.Verdict.{Verdict}

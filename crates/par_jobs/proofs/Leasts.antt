@@ -1,5 +1,5 @@
 -- Which fault of a whole list is the least one, and what a run over it found or sifted.
-use Rattle.std.proofs.Common.{◌≡◌, ◌∙◌, ℕ, zero, suc, inl, inr, ◌||◌, not, cond, List, [], ◌∷◌, length, map, get_or, Bool, true, false, Option, Some, None, refl, ap, sym, subst, arith}
+use Rattle.std.proofs.Common.{◌≡◌, ◌∙◌, ℕ, zero, suc, inl, inr, ◌||◌, not, cond, List, [], ◌∷◌, length, map, get_or, Bool, true, false, Some, None, refl, ap, sym, subst, arith}
 use Rattle.std.specs.List.{filter, list_any}
 use Rattle.std.proofs.lemmas.Bool.{cases_lt, false≢true}
 use Rattle.std.proofs.lemmas.List.{length-map}

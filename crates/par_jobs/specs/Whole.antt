@@ -1,5 +1,5 @@
 -- What the part of a job is good for that ran over a whole list, in terms of lists.
-use Rattle.std.specs.Prelude.{◌≡◌, List, map, Bool, true, false, not, Some, None}
+use Rattle.std.specs.Prelude.{◌≡◌, List, map, true, false, not, Some, None}
 use Rattle.std.specs.List.{filter, list_any}
 use Rattle.par_laws.specs.declared.test.Verdict.{Verdict}
 use Rattle.par_laws.specs.Marks.{IsMarked}
