@@ -14,7 +14,8 @@ use Rattle.par_laws.specs.Marks.{stop}
 use Rattle.par_laws.specs.Verdict.{contrary}
 use Rattle.par_lists.specs.Searches.{index_where, index_or_minus_one}
 use Rattle.par_task.specs.Marking.{low_flag, marks_of, passes}
-use Rattle.par_access.specs.Faults.{fault_by, fault_at, faults, tried}
+use Rattle.par_jobs.specs.Contrary.{contrary_stop}
+use Rattle.par_jobs.specs.Faults.{fault_by, fault_at, faults, tried}
 
 -- two answers are tried alike where they are alike or a fault stands in their place
 pub same_tried : {T : Type 0} (f : Option FaultAt) (a b : T) → (f ≡ None → a ≡ b) → tried f a ≡ tried f b
@@ -56,17 +57,7 @@ module _ {X : Type 0} (V : X → Verdict) where
       ∙ same_tried (fault_at (map V xs) (stop (marks_of low_flag (map V xs)))) _ _
       (λ n. ap (λ k. index_or_minus_one (cond (nat_lt k (length xs)) (Some k) None)) (sym (first_is xs (no_fault (stop (marks_of low_flag (map V xs))) _ n))))
 
-one_prefix : (v : Verdict) (vs : List Verdict) (n : ℕ) → n ≡ stop (marks_of low_flag vs) → cond (passes v) (1 + n) 0 ≡ stop (marks_of low_flag (contrary v ∷ vs))
-one_prefix Pass vs n e = omega (arith, e)
-one_prefix Fail vs n e = refl
-one_prefix (Fault kind) vs n e = refl
-
 module _ {X : Type 0} (V : X → Verdict) where
-  -- the items that pass in a row end where the contrary test has its first mark
-  pub prefix_is : (xs : List X) → prefix_len (λ x. passes (V x)) xs ≡ stop (marks_of low_flag (map (λ x. contrary (V x)) xs))
-  prefix_is [] = refl
-  prefix_is (x ∷ xs) = one_prefix (V x) (map (λ x. contrary (V x)) xs) (prefix_len (λ x. passes (V x)) xs) (prefix_is xs)
-
   -- past the end no item faults
   past_end : (xs : List X) (i : ℕ) → length xs ≤ i → fault_at (map V xs) i ≡ None
   past_end xs i h = let l : length (map V xs) ≤ i = omega (arith, length-map xs V, h) in ap (fault_by i) (get_or-eq_default (map V xs) Fail {n = i} l)
@@ -100,5 +91,5 @@ module _ {X : Type 0} (V : X → Verdict) where
       tried (fault_at (map V xs) (first + count)) count
       ≡ tried (fault_at (map V xs) (place + segment_length (λ x. passes (V x)) place xs)) (segment_length (λ x. passes (V x)) place xs)
   segment_is xs rest place first count e r s =
-      let n : count ≡ segment_length (λ x. passes (V x)) place xs = s ∙ (sym (prefix_is V rest) ∙ ap (λ v. prefix_len (λ x. passes (V x)) v) r) in
+      let n : count ≡ segment_length (λ x. passes (V x)) place xs = s ∙ (contrary_stop V rest ∙ ap (λ v. prefix_len (λ x. passes (V x)) v) r) in
       ap (λ f. tried f count) (segment_fault V xs place first count e) ∙ ap (λ k. tried (fault_at (map V xs) (place + k)) k) n

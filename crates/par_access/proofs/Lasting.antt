@@ -1,15 +1,11 @@
 -- The last item that is marked is the last that passes, where it doesn't fault.
-use Rattle.std.proofs.Common.{◌≡◌, ◌∙◌, ℕ, zero, suc, ◌+◌, inl, inr, List, [], ◌∷◌, length, map, get_or, true, false, Option, None, refl, ap, sym, arith}
-use Rattle.std.proofs.lemmas.Bool.{cases_lt}
-use Rattle.std.proofs.lemmas.List.{length-map}
-use Rattle.par_task.proofs.Stops.{last_within}
-use Rattle.par_task.specs.Parts.{IsLastIn}
+use Rattle.std.proofs.Common.{◌≡◌, ◌∙◌, ℕ, zero, suc, ◌+◌, List, [], ◌∷◌, map, get_or, true, false, Option, None, refl, ap, sym, arith}
 use Rattle.par_laws.specs.declared.test.Verdict.{Verdict}
 use Rattle.par_laws.specs.declared.test.Verdict.TheVariants.{Pass, Fail, Fault}
 use Rattle.par_laws.specs.Marks.{last, last_after}
 use Rattle.par_lists.specs.Searches.{last_index_where, last_position, one_on, index_or_minus_one}
-use Rattle.par_task.specs.Marking.{high_flag, marks_of, is_mark, passes, halts}
-use Rattle.par_access.specs.Faults.{fault_at, fault_below, faults, tried}
+use Rattle.par_task.specs.Marking.{high_flag, marks_of, passes, halts}
+use Rattle.par_jobs.specs.Faults.{fault_at, fault_below, faults, tried}
 use Rattle.par_access.specs.Parts.{below}
 use Rattle.par_access.proofs.Firsts.{same_tried, no_fault, fault_none, next_one}
 
@@ -37,13 +33,3 @@ module _ {X : Type 0} (V : X → Verdict) where
   last_index_is xs h e =
       ap (λ k. tried (fault_below (map V xs) k) (index_or_minus_one (below k))) e
       ∙ same_tried (fault_below (map V xs) (last (marks_of high_flag (map V xs)))) _ _ (λ n. ap index_or_minus_one (sym (last_is xs n)))
-
-  -- what a job finds of the whole list
-  pub above_is : (xs : List X) (h : ℕ) → IsLastIn (marks_of high_flag (map V xs)) 0 (length xs) h → h ≡ last (marks_of high_flag (map V xs))
-  above_is xs h l =
-      let marks = marks_of high_flag (map V xs) in
-      let size : length marks ≡ length xs = length-map (map V xs) (is_mark high_flag) ∙ length-map xs V in
-      elim (cases_lt 0 (last marks)) [
-        | inl lt ↦ l.found (omega (arith, last_within marks, size)) lt
-        | inr ge ↦ let z = l.none ge in omega (arith, z, ge)
-      ]

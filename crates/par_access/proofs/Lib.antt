@@ -1,4 +1,3 @@
-pub mod Ran
 pub mod Reducing
 pub mod Firsts
 pub mod Lasting

@@ -8,7 +8,7 @@ use Rattle.par_laws.specs.declared.test.Verdict.{Verdict}
 use Rattle.par_laws.specs.declared.tried.Tried.{Tried}
 use Rattle.par_laws.specs.declared.tried.Tried.TheVariants.{Got}
 use Rattle.par_task.specs.Marking.{abort_flag}
-use Rattle.par_access.specs.Faults.{fault_of, tried}
+use Rattle.par_jobs.specs.Faults.{fault_of, tried}
 use Rattle.par_access.specs.Pairs.{even_pairs, same_elements}
 
 -- the first part of a list that is cut at its end

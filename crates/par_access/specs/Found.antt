@@ -5,7 +5,7 @@ use Rattle.par_laws.specs.declared.test.Verdict.{Verdict}
 use Rattle.par_laws.specs.declared.tried.Tried.{Tried}
 use Rattle.par_laws.specs.Marks.{IsMarked}
 use Rattle.par_task.specs.Marking.{abort_flag, marks_of, passes}
-use Rattle.par_access.specs.Faults.{fault_of, tried}
+use Rattle.par_jobs.specs.Faults.{fault_of, tried}
 
 -- the index of an item that passes, or None where none does
 abbrev pub IsPlaceFound : List Verdict → Option ℕ → Type 0

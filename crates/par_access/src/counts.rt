@@ -2,15 +2,15 @@
 ghost use Rattle.std.specs.Prelude.{◌≡◌, ◌≤◌, length, map, IfOk};
 ghost use Rattle.std.specs.List.{count_by};
 ghost use Rattle.par_task.specs.Marking.{no_flag, passes};
-ghost use Rattle.par_access.specs.Faults.{fault_of, tried};
+ghost use Rattle.par_jobs.specs.Faults.{fault_of, tried};
 ghost use Rattle.par_access.specs.Parts.{counted_by};
-ghost use Rattle.par_access.specs.Runs.{IsRunAlone};
+ghost use Rattle.par_jobs.specs.Runs.{IsRunAlone};
 
 use par_edge::Gate;
-use par_jobs::{Counting, Nothing, SiftJob, Sifted};
+use par_jobs::{Counting, Nothing, Sifted, sift_alone};
 use par_laws::{Memory, Test, Tried};
 use par_splitter::Splitter;
-use par_task::{Audit, Marked, run_alone};
+use par_task::Audit;
 use std::alloc::Global;
 
 // What the job counted, or the fault that it met.
@@ -35,15 +35,8 @@ pub fn count_alone<S: Splitter, G: Gate, P: Test<S::Item>>(
     requires small { length (S.items source) ≤ 4194304 }
     requires level { (1 ≤ level) × (level ≤ 64) }
     ensures answer { IfOk result (λ r. r.0 ≡ tried (fault_of no_flag (map (P.verdict test.now) (S.items source))) (count_by (λ x. passes (P.verdict test.now x)) (S.items source))) }
-    ensures audit { IfOk result (λ r. IsRunAlone no_flag (map (P.verdict test.now) (S.items source)) level r.1) }
+    ensures audit { IfOk result (λ r. IsRunAlone no_flag (P.verdict test.now) (S.items source) level r.1) }
 {
-    let split = source.dup();
-    let job = SiftJob {
-        marked: Marked::over(&split, test, false),
-        passing: &Counting,
-        failing: &Nothing,
-    };
-    let marks = Marked::over(&split, test, false);
-    let (sifted, audit) = run_alone(alloc, &job, test, &marks, source, level, gate)?;
+    let (sifted, audit) = sift_alone(alloc, source, test, &Counting, &Nothing, level, gate)?;
     Ok((counted(sifted), audit))
 }

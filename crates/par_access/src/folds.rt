@@ -5,14 +5,14 @@ ghost use Rattle.std.specs.List.{fold, reduce};
 ghost use Rattle.std.specs.Option.{option_map};
 ghost use Rattle.par_laws.specs.Wrapping.{wrapped_product, wrapped_sum};
 ghost use Rattle.par_task.specs.Marking.{no_test};
-ghost use Rattle.par_access.specs.Runs.{IsRunAlone, untested};
+ghost use Rattle.par_jobs.specs.Runs.{IsRunAlone, untested};
 
 use crate::gathering::{Mapped, Maybe, Present};
 use par_edge::Gate;
-use par_jobs::{Folding, GatherJob};
-use par_laws::{Gather, Greatest, Least, Mapper, Memory, Monoid, Never, Product, Shown, Sum};
+use par_jobs::{Folding, gather_alone};
+use par_laws::{Gather, Greatest, Least, Mapper, Memory, Monoid, Product, Shown, Sum};
 use par_splitter::Splitter;
-use par_task::{Audit, Marked, run_alone};
+use par_task::Audit;
 use std::alloc::Global;
 
 /// The fold of the items: each is added to the unit in turn. Scala: the parts are folded and their results joined.
@@ -28,15 +28,9 @@ pub fn aggregate_alone<S: Splitter, G: Gate, M: Gather<S::Item>>(
     requires level { (1 ≤ level) × (level ≤ 64) }
     ensures answer { IfOk result (λ r. M.T.shown r.0 ≡ fold (M.gathered how.now) (M.unit how.now) (S.items source)) }
     ensures value { IfOk result (λ r. M.is_value how.now (M.T.shown r.0)) }
-    ensures audit { IfOk result (λ r. IsRunAlone no_test (untested (S.items source)) level r.1) }
+    ensures audit { IfOk result (λ r. IsRunAlone no_test untested (S.items source) level r.1) }
 {
-    let split = source.dup();
-    let job = GatherJob {
-        marked: Marked::over(&split, &Never, false),
-        builder: &Folding { how },
-    };
-    let marks = Marked::over(&split, &Never, false);
-    run_alone(alloc, &job, &Never, &marks, source, level, gate)
+    gather_alone(alloc, source, &Folding { how }, level, gate)
 }
 
 /// The fold of what `of` makes of the items: each is joined to the unit in turn.
@@ -53,7 +47,7 @@ pub fn fold_alone<S: Splitter, G: Gate, M: Monoid, F: Mapper<S::Item, M::T>>(
     requires level { (1 ≤ level) × (level ≤ 64) }
     ensures answer { IfOk result (λ r. M.T.shown r.0 ≡ fold (M.joined how.now) (M.unit how.now) (map (F.mapped of.now) (S.items source))) }
     ensures value { IfOk result (λ r. M.is_value how.now (M.T.shown r.0)) }
-    ensures audit { IfOk result (λ r. IsRunAlone no_test (untested (S.items source)) level r.1) }
+    ensures audit { IfOk result (λ r. IsRunAlone no_test untested (S.items source) level r.1) }
 {
     aggregate_alone(alloc, source, &Mapped { how, of }, level, gate)
 }
@@ -71,7 +65,7 @@ pub fn reduce_option_alone<S: Splitter, G: Gate, M: Monoid, F: Mapper<S::Item, M
     requires small { length (S.items source) ≤ 4194304 }
     requires level { (1 ≤ level) × (level ≤ 64) }
     ensures answer { IfOk result (λ r. option_map M.T.shown r.0 ≡ reduce (M.joined how.now) (map (F.mapped of.now) (S.items source))) }
-    ensures audit { IfOk result (λ r. IsRunAlone no_test (untested (S.items source)) level r.1) }
+    ensures audit { IfOk result (λ r. IsRunAlone no_test untested (S.items source) level r.1) }
 {
     let (how, of) = (Maybe { how }, Present { of });
     fold_alone(alloc, source, &how, &of, level, gate)
@@ -89,7 +83,7 @@ pub fn sum_alone<S: Splitter, G: Gate, F: Mapper<S::Item, i64>>(
     requires small { length (S.items source) ≤ 4194304 }
     requires level { (1 ≤ level) × (level ≤ 64) }
     ensures answer { IfOk result (λ r. r.0 ≡ fold wrapped_sum (pos 0) (map (F.mapped of.now) (S.items source))) }
-    ensures audit { IfOk result (λ r. IsRunAlone no_test (untested (S.items source)) level r.1) }
+    ensures audit { IfOk result (λ r. IsRunAlone no_test untested (S.items source) level r.1) }
 {
     fold_alone(alloc, source, &Sum, of, level, gate)
 }
@@ -106,7 +100,7 @@ pub fn product_alone<S: Splitter, G: Gate, F: Mapper<S::Item, i64>>(
     requires small { length (S.items source) ≤ 4194304 }
     requires level { (1 ≤ level) × (level ≤ 64) }
     ensures answer { IfOk result (λ r. r.0 ≡ fold wrapped_product (pos 1) (map (F.mapped of.now) (S.items source))) }
-    ensures audit { IfOk result (λ r. IsRunAlone no_test (untested (S.items source)) level r.1) }
+    ensures audit { IfOk result (λ r. IsRunAlone no_test untested (S.items source) level r.1) }
 {
     fold_alone(alloc, source, &Product, of, level, gate)
 }
@@ -123,7 +117,7 @@ pub fn min_alone<S: Splitter, G: Gate, F: Mapper<S::Item, i64>>(
     requires small { length (S.items source) ≤ 4194304 }
     requires level { (1 ≤ level) × (level ≤ 64) }
     ensures answer { IfOk result (λ r. r.0 ≡ reduce int_min (map (F.mapped of.now) (S.items source))) }
-    ensures audit { IfOk result (λ r. IsRunAlone no_test (untested (S.items source)) level r.1) }
+    ensures audit { IfOk result (λ r. IsRunAlone no_test untested (S.items source) level r.1) }
 {
     fold_alone(alloc, source, &Least, &Present { of }, level, gate)
 }
@@ -140,7 +134,7 @@ pub fn max_alone<S: Splitter, G: Gate, F: Mapper<S::Item, i64>>(
     requires small { length (S.items source) ≤ 4194304 }
     requires level { (1 ≤ level) × (level ≤ 64) }
     ensures answer { IfOk result (λ r. r.0 ≡ reduce int_max (map (F.mapped of.now) (S.items source))) }
-    ensures audit { IfOk result (λ r. IsRunAlone no_test (untested (S.items source)) level r.1) }
+    ensures audit { IfOk result (λ r. IsRunAlone no_test untested (S.items source) level r.1) }
 {
     fold_alone(alloc, source, &Greatest, &Present { of }, level, gate)
 }

@@ -1,21 +1,20 @@
 //! Searches for the first item that ends a run, and for the last one that passes.
 ghost use Rattle.std.specs.Prelude.{◌≡◌, ◌≤◌, ◌+◌, length, map, drop, IfOk, cond, min, nat_lt, Some, None};
-ghost use Rattle.par_laws.specs.Marks.{stop, last};
 ghost use Rattle.par_laws.specs.Verdict.{contrary};
 ghost use Rattle.par_lists.specs.Cuts as cuts;
 ghost use Rattle.par_lists.specs.Searches as searches;
-ghost use Rattle.par_task.specs.Marking.{low_flag, high_flag, marks_of, passes};
-ghost use Rattle.par_access.specs.Faults as faults;
+ghost use Rattle.par_task.specs.Marking.{low_flag, high_flag, passes};
+ghost use Rattle.par_jobs.specs.Faults as faults;
 ghost use Rattle.par_access.specs.Parts.{below};
-ghost use Rattle.par_access.specs.Runs.{IsRunAlone};
+ghost use Rattle.par_jobs.specs.Runs.{IsRunAlone};
 
-use crate::faults::{fault_before, fault_here, tried};
+use crate::faults::tried;
 use par_edge::Gate;
-use par_jobs::{FrontJob, LastJob, Nothing};
+use par_jobs::{Nothing, fault_before, fault_here, front_alone, last_alone};
 use par_laws::{Memory, Not, Test, Tried};
 use par_lists::{index_of, place_of};
 use par_splitter::{Precise, Rebased, Splitter};
-use par_task::{Audit, Marked, run_alone};
+use par_task::Audit;
 use std::alloc::Global;
 
 // The index, where it is one of so many items.
@@ -39,31 +38,6 @@ fn place_among(from: i64, count: u32) -> u32
     place_of(from).min(u64::from(count)) as u32
 }
 
-// The index of the first item that passes or faults, or the number of items.
-fn front<S: Splitter, G: Gate, P: Test<S::Item>>(
-    alloc: Global,
-    source: S,
-    test: &P,
-    level: u32,
-    gate: &G,
-) -> Result<(u32, Audit), Memory>
-    requires begins { S.lo source ≡ 0 }
-    requires small { length (S.items source) ≤ 4194304 }
-    requires level { (1 ≤ level) × (level ≤ 64) }
-    ensures end { IfOk result (λ r. r.0 ≡ stop (marks_of low_flag (map (P.verdict test.now) (S.items source)))) }
-    ensures within { IfOk result (λ r. r.0 ≤ length (S.items source)) }
-    ensures audit { IfOk result (λ r. IsRunAlone low_flag (map (P.verdict test.now) (S.items source)) level r.1) }
-{
-    let split = source.dup();
-    let job = FrontJob {
-        marked: Marked::over(&split, test, true),
-        builder: &Nothing,
-    };
-    let marks = Marked::over(&split, test, true);
-    let (front, audit) = run_alone(alloc, &job, test, &marks, source, level, gate)?;
-    Ok((front.end, audit))
-}
-
 /// The index of the first item that passes, or -1. Where an item faults before any passes, its fault.
 pub fn index_where_alone<S: Precise, G: Gate, P: Test<S::Item>>(
     alloc: Global,
@@ -76,12 +50,12 @@ pub fn index_where_alone<S: Precise, G: Gate, P: Test<S::Item>>(
     requires small { length (S.items source) ≤ 4194304 }
     requires level { (1 ≤ level) × (level ≤ 64) }
     ensures answer { IfOk result (λ r. r.0 ≡ faults.tried (faults.fault_of low_flag (map (P.verdict test.now) (S.items source))) (searches.index_where (λ x. passes (P.verdict test.now x)) (S.items source))) }
-    ensures audit { IfOk result (λ r. IsRunAlone low_flag (map (P.verdict test.now) (S.items source)) level r.1) }
+    ensures audit { IfOk result (λ r. IsRunAlone low_flag (P.verdict test.now) (S.items source) level r.1) }
 {
     let whole = source.dup();
-    let (end, audit) = front(alloc, source, test, level, gate)?;
-    let found = index_within(end, whole.remaining());
-    let fault = fault_here(&whole, test, end);
+    let (front, audit) = front_alone(alloc, source, test, &Nothing, level, gate)?;
+    let found = index_within(front.end, whole.remaining());
+    let fault = fault_here(whole, test, front.end);
     Ok((tried(fault, index_of(found)), audit))
 }
 
@@ -97,16 +71,12 @@ pub fn last_index_where_alone<S: Precise, G: Gate, P: Test<S::Item>>(
     requires small { length (S.items source) ≤ 4194304 }
     requires level { (1 ≤ level) × (level ≤ 64) }
     ensures answer { IfOk result (λ r. r.0 ≡ faults.tried (faults.fault_of high_flag (map (P.verdict test.now) (S.items source))) (searches.last_index_where (λ x. passes (P.verdict test.now x)) (S.items source))) }
-    ensures audit { IfOk result (λ r. IsRunAlone high_flag (map (P.verdict test.now) (S.items source)) level r.1) }
+    ensures audit { IfOk result (λ r. IsRunAlone high_flag (P.verdict test.now) (S.items source) level r.1) }
 {
     let whole = source.dup();
-    let job = LastJob {
-        marked: Marked::over(&whole, test, true),
-    };
-    let marks = Marked::over(&whole, test, true);
-    let (above, audit) = run_alone(alloc, &job, test, &marks, source, level, gate)?;
+    let (above, audit) = last_alone(alloc, source, test, level, gate)?;
     let found = index_below(above);
-    let fault = fault_before(&whole, test, above);
+    let fault = fault_before(whole, test, above);
     Ok((tried(fault, index_of(found)), audit))
 }
 
@@ -124,13 +94,13 @@ pub fn segment_length_alone<S: Precise, G: Gate, P: Test<S::Item>>(
     requires small { length (S.items source) ≤ 4194304 }
     requires level { (1 ≤ level) × (level ≤ 64) }
     ensures answer { IfOk result (λ r. r.0 ≡ faults.tried (faults.fault_at (map (P.verdict test.now) (S.items source)) (cuts.place from + cuts.segment_length (λ x. passes (P.verdict test.now x)) (cuts.place from) (S.items source))) (cuts.segment_length (λ x. passes (P.verdict test.now x)) (cuts.place from) (S.items source))) }
-    ensures audit { IfOk result (λ r. IsRunAlone low_flag (map (λ x. contrary (P.verdict test.now x)) (drop (cuts.place from) (S.items source))) level r.1) }
+    ensures audit { IfOk result (λ r. IsRunAlone low_flag (λ x. contrary (P.verdict test.now x)) (drop (cuts.place from) (S.items source)) level r.1) }
 {
     let whole = source.dup();
     let first = place_among(from, source.remaining());
     let (_, rest) = source.cut_at(first);
     let fails = Not { inner: test };
-    let (count, audit) = front(alloc, Rebased::new(rest), &fails, level, gate)?;
-    let fault = fault_here(&whole, test, first + count);
-    Ok((tried(fault, count), audit))
+    let (front, audit) = front_alone(alloc, Rebased::new(rest), &fails, &Nothing, level, gate)?;
+    let fault = fault_here(whole, test, first + front.end);
+    Ok((tried(fault, front.end), audit))
 }

@@ -1,7 +1,8 @@
 //! Folds and searches of parallel collections, each on one thread.
 //!
-//! A call takes the splitter of its source, cuts it into a chain of leaves by its level, runs them one after the other,
-//! and answers with the `Audit` of its leaves. What it answers is the plain list function of the source's list.
+//! A call takes the splitter of its source, and runs the job of its family over it by a function of `par_jobs`: the source
+//! is cut into a chain of leaves by the level, which run one after the other. The call answers with the `Audit` of its
+//! leaves. What it answers is the plain list function of the source's list.
 //!
 //! | Calls | Answer |
 //! |---|---|
@@ -12,8 +13,8 @@
 //! | `index_where_alone`, `last_index_where_alone`, `segment_length_alone` | the first, the last item that passes, and how many pass in a row |
 //!
 //! A test may find that an item has no truth value. A call with a test answers `Tried`: its answer, or the fault that
-//! stands in its place, by the rule `fault_of` of specs/Faults. The audit says what the leaves tested. A look at the one
-//! item that ended a search, for the kind of its fault, is in no leaf.
+//! stands in its place, by the rule `fault_of` in specs/Faults of `par_jobs`. The audit says what the leaves tested. A look
+//! at the one item that ended a search, for the kind of its fault, is in no leaf.
 //!
 //! Every call has the conditions that its source begins at place 0 and has at most `MAX_ITEMS` items, and that its level
 //! is 1 to 64. Its one error is want of memory.

@@ -3,42 +3,19 @@ ghost use Rattle.std.specs.Prelude.{◌≡◌, ◌≤◌, length, map, true, fal
 ghost use Rattle.std.specs.List.{list_any, list_all};
 ghost use Rattle.par_laws.specs.declared.tried.Tried.TheVariants.{Got};
 ghost use Rattle.par_laws.specs.Verdict.{contrary};
-ghost use Rattle.par_task.specs.Marking.{abort_flag, marks_of, passes};
-ghost use Rattle.par_jobs.specs.Merges.{IsSought};
-ghost use Rattle.par_access.specs.Faults.{fault_of, tried};
+ghost use Rattle.par_task.specs.Marking.{abort_flag, passes};
+ghost use Rattle.par_jobs.specs.Faults.{fault_of, tried};
 ghost use Rattle.par_access.specs.Found.{IsFound};
 ghost use Rattle.par_access.specs.Parts.{place_by, tried_by};
 ghost use Rattle.par_access.specs.Pairs.{even_pairs, same_elements};
-ghost use Rattle.par_access.specs.Runs.{IsRunAlone};
+ghost use Rattle.par_jobs.specs.Runs.{IsRunAlone};
 
 use par_edge::Gate;
-use par_jobs::{SearchJob, Sought};
+use par_jobs::{Sought, search_alone};
 use par_laws::{Memory, Not, Test, Tried};
 use par_splitter::{Precise, Splitter, ZipSplitter};
-use par_task::{Audit, Marked, run_alone};
+use par_task::Audit;
 use std::alloc::Global;
-
-// An item that passes; or, where none passes, the least fault; or nothing.
-fn search<S: Splitter, G: Gate, P: Test<S::Item>>(
-    alloc: Global,
-    source: S,
-    test: &P,
-    level: u32,
-    gate: &G,
-) -> Result<(Sought, Audit), Memory>
-    requires begins { S.lo source ≡ 0 }
-    requires small { length (S.items source) ≤ 4194304 }
-    requires level { (1 ≤ level) × (level ≤ 64) }
-    ensures answer { IfOk result (λ r. IsSought (map (P.verdict test.now) (S.items source)) (marks_of abort_flag (map (P.verdict test.now) (S.items source))) 0 (length (S.items source)) r.0) }
-    ensures audit { IfOk result (λ r. IsRunAlone abort_flag (map (P.verdict test.now) (S.items source)) level r.1) }
-{
-    let split = source.dup();
-    let job = SearchJob {
-        marked: Marked::over(&split, test, false),
-    };
-    let marks = Marked::over(&split, test, false);
-    run_alone(alloc, &job, test, &marks, source, level, gate)
-}
 
 // What a question of truth answers: `found` where an item passes, and else the contrary, or the fault.
 fn answered(sought: Sought, found: bool) -> Tried<bool>
@@ -75,9 +52,9 @@ pub fn find_alone<S: Precise, G: Gate, P: Test<S::Item>>(
     requires small { length (S.items source) ≤ 4194304 }
     requires level { (1 ≤ level) × (level ≤ 64) }
     ensures answer { IfOk result (λ r. IsFound (map (P.verdict test.now) (S.items source)) r.0) }
-    ensures audit { IfOk result (λ r. IsRunAlone abort_flag (map (P.verdict test.now) (S.items source)) level r.1) }
+    ensures audit { IfOk result (λ r. IsRunAlone abort_flag (P.verdict test.now) (S.items source) level r.1) }
 {
-    let (sought, audit) = search(alloc, source, test, level, gate)?;
+    let (sought, audit) = search_alone(alloc, source, test, level, gate)?;
     Ok((place(sought), audit))
 }
 
@@ -93,9 +70,9 @@ pub fn exists_alone<S: Splitter, G: Gate, P: Test<S::Item>>(
     requires small { length (S.items source) ≤ 4194304 }
     requires level { (1 ≤ level) × (level ≤ 64) }
     ensures answer { IfOk result (λ r. r.0 ≡ tried (fault_of abort_flag (map (P.verdict test.now) (S.items source))) (list_any (λ x. passes (P.verdict test.now x)) (S.items source))) }
-    ensures audit { IfOk result (λ r. IsRunAlone abort_flag (map (P.verdict test.now) (S.items source)) level r.1) }
+    ensures audit { IfOk result (λ r. IsRunAlone abort_flag (P.verdict test.now) (S.items source) level r.1) }
 {
-    let (sought, audit) = search(alloc, source, test, level, gate)?;
+    let (sought, audit) = search_alone(alloc, source, test, level, gate)?;
     Ok((answered(sought, true), audit))
 }
 
@@ -111,10 +88,10 @@ pub fn forall_alone<S: Splitter, G: Gate, P: Test<S::Item>>(
     requires small { length (S.items source) ≤ 4194304 }
     requires level { (1 ≤ level) × (level ≤ 64) }
     ensures answer { IfOk result (λ r. r.0 ≡ tried (fault_of abort_flag (map (λ x. contrary (P.verdict test.now x)) (S.items source))) (list_all (λ x. passes (P.verdict test.now x)) (S.items source))) }
-    ensures audit { IfOk result (λ r. IsRunAlone abort_flag (map (λ x. contrary (P.verdict test.now x)) (S.items source)) level r.1) }
+    ensures audit { IfOk result (λ r. IsRunAlone abort_flag (λ x. contrary (P.verdict test.now x)) (S.items source) level r.1) }
 {
     let fails = Not { inner: test };
-    let (sought, audit) = search(alloc, source, &fails, level, gate)?;
+    let (sought, audit) = search_alone(alloc, source, &fails, level, gate)?;
     Ok((answered(sought, false), audit))
 }
 
@@ -151,7 +128,7 @@ pub fn same_elements_alone<S: Precise, G: Gate, R: Precise, Q: Test<(S::Item, R:
     requires small { length (S.items source) ≤ 4194304 }
     requires level { (1 ≤ level) × (level ≤ 64) }
     ensures answer { IfOk result (λ r. r.0 ≡ tried (fault_of abort_flag (map (λ x. contrary (Q.verdict same.now x)) (even_pairs (S.items source) (R.items other)))) (same_elements (λ x. passes (Q.verdict same.now x)) (S.items source) (R.items other))) }
-    ensures audit { IfOk result (λ r. IsRunAlone abort_flag (map (λ x. contrary (Q.verdict same.now x)) (even_pairs (S.items source) (R.items other))) level r.1) }
+    ensures audit { IfOk result (λ r. IsRunAlone abort_flag (λ x. contrary (Q.verdict same.now x)) (even_pairs (S.items source) (R.items other)) level r.1) }
 {
     let (count, others) = (source.remaining(), other.remaining());
     let pairs = even_count(count, others);

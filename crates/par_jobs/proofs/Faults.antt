@@ -1,5 +1,5 @@
 -- The first fault of a leaf, and the items that pass, one item more.
-use Rattle.std.proofs.Common.{◌≡◌, ℕ, suc, ◌+◌, ◌≤◌, ◌<◌, ◌⊎◌, inl, inr, true, false, Bool, cond, List, [], ◌∷◌, ◌++◌, length, map, get_or, Option, Some, None, refl, ap, sym, ◌∙◌, subst, arith, rules}
+use Rattle.std.proofs.Common.{◌≡◌, ℕ, ◌+◌, ◌≤◌, ◌<◌, true, false, Bool, cond, List, [], ◌∷◌, ◌++◌, length, map, get_or, Option, Some, None, refl, ap, sym, ◌∙◌, arith}
 use Rattle.std.specs.List.{filter}
 use Rattle.std.proofs.lemmas.List.Elements.{filter-append}
 use Rattle.par_laws.specs.declared.test.Verdict.{Verdict}
@@ -8,7 +8,7 @@ use Rattle.par_laws.specs.declared.tried.FaultAt.{FaultAt}
 use Rattle.par_laws.specs.Marks.{Clear}
 use Rattle.par_task.specs.Marking.{passes}
 use Rattle.par_task.specs.Spans.{IsSpan}
-use Rattle.par_task.specs.Parts.{between, Sound, IsLeastFault, IsSifted}
+use Rattle.par_task.specs.Parts.{between, Sound, IsLeastFault}
 use Rattle.par_jobs.specs.Steps.{noted, fails}
 use Rattle.par_jobs.specs.Merges.{sound_join, fault_left, IsSought, IsSiftedOf, not_found_by, sifted_by, sifted_shown, kept_if}
 use Rattle.par_jobs.proofs.Scanning.{verdict_at}

@@ -3,3 +3,5 @@ pub mod Fronts
 pub mod Faults
 pub mod Lasts
 pub mod Spanning
+pub mod Whole
+pub mod Leasts

@@ -1,6 +1,6 @@
 -- A leaf that tests its items in order: where it stands, and what it owes at each way out.
-use Rattle.std.proofs.Common.{◌≡◌, ℕ, zero, suc, ◌+◌, ◌-◌, ◌%◌, ◌≤◌, ◌<◌, ◌⊎◌, inl, inr, Bool, true, false, List, [], ◌∷◌, ◌++◌, length, map, take, drop, get_or, refl, ap, sym, ◌∙◌, subst, arith, rules}
-use Rattle.std.proofs.lemmas.Bool.{cases_lt, false≢true}
+use Rattle.std.proofs.Common.{◌≡◌, ℕ, ◌+◌, ◌≤◌, ◌<◌, ◌⊎◌, inl, inr, Bool, true, false, List, ◌∷◌, length, map, take, drop, get_or, refl, ap, sym, ◌∙◌, subst, arith}
+use Rattle.std.proofs.lemmas.Bool.{false≢true}
 use Rattle.std.proofs.lemmas.List.{get_or-drop, get_or-take, get_or-map, length-map, drop-drop, drop-take}
 use Rattle.par_laws.specs.declared.test.Verdict.{Verdict}
 use Rattle.par_laws.specs.declared.test.Verdict.TheVariants.{Fail}
@@ -10,9 +10,9 @@ use Rattle.par_signal.specs.Values.{IsSet}
 use Rattle.par_signal.specs.declared.abort.Abort.{Abort}
 use Rattle.par_task.specs.Marking.{Kind, low_flag, abort_flag, marks_of, is_mark}
 use Rattle.par_task.specs.Spans.{IsSpan}
-use Rattle.par_task.specs.Leaves.{EndsMarked, IsReadAgain, IsScan, IsSkipOrScan, IsLowLeaf, IsAbortLeaf, AnyMarked, IsLawful}
-use Rattle.par_task.specs.Seats.{IsLater, Heeds, HasFound, IsFresh, IsFull, IsFullAlone, IsLeafOf}
-use Rattle.par_task.proofs.Stops.{bool_cases, marked_below, stop_least, stop_within, clear_join, clear_one}
+use Rattle.par_task.specs.Leaves.{EndsMarked, IsReadAgain}
+use Rattle.par_task.specs.Seats.{IsLater, IsFresh, IsLeafOf}
+use Rattle.par_task.proofs.Stops.{marked_below, stop_least, clear_join, clear_one}
 use Rattle.par_signal.specs.Calls.{aborts}
 use Rattle.par_jobs.specs.Steps.{IsUnset, IsGoingOn}
 

@@ -1,6 +1,5 @@
 -- Both sides of a span: what a leaf passed, and what it left.
-use Rattle.std.proofs.Common.{◌≡◌, ℕ, ◌+◌, ◌<◌, ◌≤◌, List, ◌∷◌, ◌++◌, length, length-append, Bool, ap, sym, ◌∙◌, subst, arith}
-use Rattle.par_laws.specs.Marks.{stop}
+use Rattle.std.proofs.Common.{◌≡◌, ℕ, ◌<◌, ◌≤◌, List, ◌∷◌, ◌++◌, length, length-append, Bool, ap, ◌∙◌, subst, arith}
 use Rattle.par_task.specs.Parts.{between, IsSpanned}
 use Rattle.par_jobs.specs.Passing.{IsPassed, IsLeft}
 use Rattle.par_jobs.proofs.Fronts.{front_of, span_between}

@@ -3,3 +3,7 @@ pub mod Steps
 pub mod Passing
 pub mod Merges
 pub mod Spanned
+pub mod Faults
+pub mod Runs
+pub mod Whole
+pub mod Contrary

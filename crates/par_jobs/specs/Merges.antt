@@ -1,14 +1,13 @@
 -- Parts that are enums, what each merge gives, and why the merge of adjacent good parts is good.
-use Rattle.std.proofs.Common.{◌≡◌, ℕ, zero, suc, ◌+◌, ◌-◌, ◌≤◌, ◌<◌, ◌⊎◌, inl, inr, min, List, [], ◌∷◌, ◌++◌, length, map, take, drop, get_or, Bool, true, false, cond, Option, Some, None, refl, ap, sym, ◌∙◌, subst, arith, rules, length-append}
+use Rattle.std.proofs.Common.{◌≡◌, ℕ, zero, suc, ◌+◌, ◌-◌, ◌≤◌, inl, inr, min, List, [], ◌∷◌, ◌++◌, map, take, drop, Bool, true, false, cond, Option, Some, None, refl, ap, sym, ◌∙◌, subst, arith, length-append}
 use Rattle.std.specs.List.{filter}
 use Rattle.std.proofs.lemmas.Bool.{cases_lt, false≢true}
 use Rattle.std.proofs.lemmas.List.{take-append-drop, take-take, drop-take, drop-drop}
 use Rattle.std.proofs.lemmas.List.Elements.{filter-append}
 use Rattle.par_laws.specs.declared.test.Verdict.{Verdict}
-use Rattle.par_laws.specs.declared.test.Verdict.TheVariants.{Pass, Fail, Fault}
 use Rattle.par_laws.specs.Marks.{IsMarked, Clear, stop, last}
 use Rattle.par_task.specs.Marking.{passes}
-use Rattle.par_task.specs.Parts.{between, Sound, IsLeastFault, IsEnd, IsFront, IsNowhere, IsFaulty, IsLastIn, IsSifted, IsGathered}
+use Rattle.par_task.specs.Parts.{between, Sound, IsLeastFault, IsFront, IsNowhere, IsFaulty, IsLastIn, IsSifted, IsGathered}
 use Rattle.par_laws.specs.declared.tried.FaultAt.{FaultAt}
 use Rattle.par_jobs.specs.Steps.{fails}
 use Rattle.par_jobs.specs.declared.front.Front.{Front}

@@ -1,8 +1,7 @@
 -- Parts that keep both sides of the stop, and why their merge is good.
-use Rattle.std.proofs.Common.{◌≡◌, ℕ, ◌+◌, ◌-◌, ◌≤◌, ◌<◌, min, List, ◌++◌, length, Bool, true, false, refl, ap, sym, ◌∙◌, subst, arith}
+use Rattle.std.proofs.Common.{◌≡◌, ℕ, ◌≤◌, List, ◌++◌, Bool, true, false, refl, ap, sym, ◌∙◌, subst, arith}
 use Rattle.std.proofs.lemmas.Bool.{false≢true}
-use Rattle.par_laws.specs.Marks.{stop}
-use Rattle.par_task.specs.Parts.{between, IsEnd, IsSpanned}
+use Rattle.par_task.specs.Parts.{between, IsSpanned}
 use Rattle.par_jobs.specs.Merges.{between_join}
 use Rattle.par_jobs.specs.declared.span.Spanned.{Spanned}
 

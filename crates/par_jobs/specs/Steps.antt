@@ -1,19 +1,17 @@
 -- What a leaf reads of a flag on its way, and the first fault that it meets.
-use Rattle.std.specs.Prelude.{◌≡◌, ℕ, ◌+◌, ◌-◌, ◌<◌, ◌≤◌, ◌⊎◌, List, length, Bool, true, false, Option, Some, None}
+use Rattle.std.specs.Prelude.{◌≡◌, ℕ, ◌<◌, ◌≤◌, List, Bool, true, false, Option, Some, None}
 use Rattle.par_laws.specs.declared.test.Verdict.{Verdict}
 use Rattle.par_laws.specs.declared.test.Verdict.TheVariants.{Pass, Fail, Fault}
 use Rattle.par_laws.specs.declared.tried.FaultAt.{FaultAt}
 use Rattle.par_laws.specs.Marks.{IsMarked, stop}
 use Rattle.par_signal.specs.Seen.{Seen}
 use Rattle.par_signal.specs.Values.{IsSet}
-use Rattle.par_task.specs.Leaves.{IsReadAgain}
+use Rattle.par_jobs.specs.Faults.{fault_by}
 
 -- the first fault so far, with one verdict more
 abbrev pub noted : Option FaultAt → Verdict → ℕ → Option FaultAt
 noted (Some f) v at = Some f
-noted None Pass at = None
-noted None Fail at = None
-noted None (Fault k) at = Some (record { at = at; kind = k })
+noted None v at = fault_by at v
 
 -- the verdict is Fail
 abbrev pub fails : Verdict → Bool

@@ -1,6 +1,7 @@
-//! The least fault of a leaf, and what a verdict says.
+//! What a verdict says, and the least fault of a leaf.
 ghost use Rattle.std.specs.Prelude.{◌≡◌};
 ghost use Rattle.par_task.specs.Marking.{passes, halts};
+ghost use Rattle.par_jobs.specs.Faults.{fault_by};
 ghost use Rattle.par_jobs.specs.Steps.{noted, fails};
 
 use par_laws::{FaultAt, Verdict};
@@ -38,16 +39,23 @@ pub(crate) fn is_halt(verdict: Verdict) -> bool
     }
 }
 
+// The fault that the item at that index has, if its verdict is one.
+pub(crate) fn as_fault(verdict: Verdict, at: u32) -> Option<FaultAt>
+    ensures { result ≡ fault_by at verdict }
+{
+    match verdict {
+        Verdict::Fault(kind) => Some(FaultAt { at, kind }),
+        Verdict::Pass => None,
+        Verdict::Fail => None,
+    }
+}
+
 // The first fault so far.
 pub(crate) fn note_fault(fault: Option<FaultAt>, verdict: Verdict, at: u32) -> Option<FaultAt>
     ensures { result ≡ noted fault verdict at }
 {
     match fault {
         Some(first) => Some(first),
-        None => match verdict {
-            Verdict::Fault(kind) => Some(FaultAt { at, kind }),
-            Verdict::Pass => None,
-            Verdict::Fail => None,
-        },
+        None => as_fault(verdict, at),
     }
 }

@@ -6,14 +6,14 @@ ghost use Rattle.par_task.specs.Marking.{low_flag, marks_of};
 
 use crate::fault::is_halt;
 use crate::{
-    Counting, Folding, Front, FrontJob, GatherJob, LastJob, Listing, SearchJob, SiftJob, Sifted,
-    Sought, SpanJob, Spanned,
+    Counting, Folding, Front, FrontJob, Listing, Sifted, Sought, Spanned, fault_before, fault_here,
+    front_alone, gather_alone, last_alone, search_alone, sift_alone, spanned_alone,
 };
 use par_edge::OpenGate;
-use par_laws::{FaultAt, Mapper, Memory, Never, Probe, Sum, Test, Verdict};
+use par_laws::{FaultAt, Mapper, Memory, Probe, Sum, Test, Verdict};
 use par_signal::{SignalSeat, Signals};
 use par_splitter::{Cut, Precise, RangeSplitter, Splitter, range_count};
-use par_task::{Audit, Leaf, Marked, Place, run_alone, run_leaf};
+use par_task::{Audit, Leaf, Marked, Place, run_leaf};
 use std::alloc::Global;
 use std::marker::PhantomData;
 use std::test::Fail;
@@ -56,13 +56,13 @@ impl Mapper<i64, i64> for Same {
 // The numbers from a on and before b, if they are few.
 fn from_to(a: i64, b: i64) -> Option<RangeSplitter>
     ensures place { IfSome result (λ s. ⟦<RangeSplitter as Splitter>⟧.lo s ≡ 0) }
-    ensures few { IfSome result (λ s. length (⟦<RangeSplitter as Splitter>⟧.items s) ≤ 1000) }
+    ensures few { IfSome result (λ s. length (⟦<RangeSplitter as Splitter>⟧.items s) ≤ 3000) }
 {
-    if range_count(a, b, 1) > 1000 {
+    if range_count(a, b, 1) > 3000 {
         return None;
     }
     let source = RangeSplitter::new(a, b, 1);
-    if source.remaining() > 1000 {
+    if source.remaining() > 3000 {
         return None;
     }
     Some(source)
@@ -75,19 +75,14 @@ fn front(
     level: u32,
 ) -> Result<(Front<Vec<i64>>, Audit), Memory>
     requires place { ⟦<RangeSplitter as Splitter>⟧.lo source ≡ 0 }
-    requires few { length (⟦<RangeSplitter as Splitter>⟧.items source) ≤ 1000 }
+    requires few { length (⟦<RangeSplitter as Splitter>⟧.items source) ≤ 3000 }
     requires level { (1 ≤ level) × (level ≤ 64) }
 {
-    let split = source.dup();
-    let job = FrontJob {
-        marked: Marked::over(&split, test, true),
-        builder: &Listing {
-            of: &Same,
-            out: PhantomData,
-        },
+    let list = Listing {
+        of: &Same,
+        out: PhantomData,
     };
-    let marks = Marked::over(&split, test, true);
-    run_alone(alloc, &job, test, &marks, source, level, &OpenGate)
+    front_alone(alloc, source, test, &list, level, &OpenGate)
 }
 
 fn span(
@@ -96,60 +91,39 @@ fn span(
     test: &Rule,
 ) -> Result<(Spanned<Vec<i64>>, Audit), Memory>
     requires place { ⟦<RangeSplitter as Splitter>⟧.lo source ≡ 0 }
-    requires few { length (⟦<RangeSplitter as Splitter>⟧.items source) ≤ 1000 }
+    requires few { length (⟦<RangeSplitter as Splitter>⟧.items source) ≤ 3000 }
 {
-    let split = source.dup();
-    let job = SpanJob {
-        marked: Marked::over(&split, test, true),
-        builder: &Listing {
-            of: &Same,
-            out: PhantomData,
-        },
+    let list = Listing {
+        of: &Same,
+        out: PhantomData,
     };
-    let marks = Marked::over(&split, test, true);
-    run_alone(alloc, &job, test, &marks, source, 4, &OpenGate)
+    spanned_alone(alloc, source, test, &list, 4, &OpenGate)
 }
 
 fn last(alloc: Global, source: RangeSplitter, test: &Rule) -> Result<u32, Memory>
     requires place { ⟦<RangeSplitter as Splitter>⟧.lo source ≡ 0 }
-    requires few { length (⟦<RangeSplitter as Splitter>⟧.items source) ≤ 1000 }
+    requires few { length (⟦<RangeSplitter as Splitter>⟧.items source) ≤ 3000 }
 {
-    let split = source.dup();
-    let job = LastJob {
-        marked: Marked::over(&split, test, true),
-    };
-    let marks = Marked::over(&split, test, true);
-    let (part, _) = run_alone(alloc, &job, test, &marks, source, 4, &OpenGate)?;
+    let (part, _) = last_alone(alloc, source, test, 4, &OpenGate)?;
     Ok(part)
 }
 
 fn search(alloc: Global, source: RangeSplitter, test: &Rule) -> Result<(Sought, Audit), Memory>
     requires place { ⟦<RangeSplitter as Splitter>⟧.lo source ≡ 0 }
-    requires few { length (⟦<RangeSplitter as Splitter>⟧.items source) ≤ 1000 }
+    requires few { length (⟦<RangeSplitter as Splitter>⟧.items source) ≤ 3000 }
 {
-    let split = source.dup();
-    let job = SearchJob {
-        marked: Marked::over(&split, test, false),
-    };
-    let marks = Marked::over(&split, test, false);
-    run_alone(alloc, &job, test, &marks, source, 4, &OpenGate)
+    search_alone(alloc, source, test, 4, &OpenGate)
 }
 
 fn sift(alloc: Global, source: RangeSplitter, test: &Rule) -> Result<Sifted<Vec<i64>, u32>, Memory>
     requires place { ⟦<RangeSplitter as Splitter>⟧.lo source ≡ 0 }
-    requires few { length (⟦<RangeSplitter as Splitter>⟧.items source) ≤ 1000 }
+    requires few { length (⟦<RangeSplitter as Splitter>⟧.items source) ≤ 3000 }
 {
-    let split = source.dup();
-    let job = SiftJob {
-        marked: Marked::over(&split, test, false),
-        passing: &Listing {
-            of: &Same,
-            out: PhantomData,
-        },
-        failing: &Counting,
+    let list = Listing {
+        of: &Same,
+        out: PhantomData,
     };
-    let marks = Marked::over(&split, test, false);
-    let (part, _) = run_alone(alloc, &job, test, &marks, source, 4, &OpenGate)?;
+    let (part, _) = sift_alone(alloc, source, test, &list, &Counting, 4, &OpenGate)?;
     Ok(part)
 }
 
@@ -304,15 +278,35 @@ fn sifts(rt: HostRuntime) -> Result<(), Fail> {
 #[test]
 fn folds_a_range(rt: HostRuntime) -> Result<(), Fail> {
     let source = from_to(0, 5).ok_or("few")?;
-    let split = source.dup();
-    let job = GatherJob {
-        marked: Marked::over(&split, &Never, false),
-        builder: &Folding { how: &Sum },
-    };
-    let marks = Marked::over(&split, &Never, false);
-    let (sum, audit) = run_alone(rt.alloc(), &job, &Never, &marks, source, 4, &OpenGate)?;
+    let (sum, audit) = gather_alone(rt.alloc(), source, &Folding { how: &Sum }, 4, &OpenGate)?;
     assert_eq!(rt; sum, 10);
     assert_eq!(rt; audit.leaves().len(), 3);
+    Ok(())
+}
+
+#[test]
+fn looks_at_one_item(rt: HostRuntime) -> Result<(), Fail> {
+    let rule = Rule {
+        least: 5,
+        faulty: 3,
+    };
+    // An index, and whether the item there faults and the one below it.
+    let cases: [(u32, bool, bool); 6] = [
+        (0, false, false),
+        (3, true, false),
+        (4, false, true),
+        (5, false, false),
+        (8, false, false),
+        (9, false, false),
+    ];
+    for (at, here, before) in cases {
+        let source = from_to(0, 8).ok_or("few")?;
+        let fault = Some(FaultAt { at: 3, kind: 7 });
+        let found = fault_here(source.dup(), &rule, at);
+        assert_eq!(rt; found, if here { fault } else { None });
+        let found = fault_before(source, &rule, at);
+        assert_eq!(rt; found, if before { fault } else { None });
+    }
     Ok(())
 }
 
@@ -475,7 +469,7 @@ fn leaf_that_is_overtaken<S: Precise, P: Test<S::Item>>(
 
 #[test]
 fn a_leaf_breaks_off_where_another_seat_lowered_the_flag(rt: HostRuntime) -> Result<(), Fail> {
-    let source = RangeSplitter::new(0, 3000, 1);
+    let source = from_to(0, 3000).ok_or("few")?;
     let rule = Rule {
         least: 3000,
         faulty: 100,

@@ -1,5 +1,5 @@
 -- Items with their indexes, and runs without a test over lists of one length.
-use Rattle.std.proofs.Common.{◌≡◌, ℕ, ◌+◌, inl, inr, false, List, [], ◌∷◌, length, map, ℤ, pos, ◌+ℤ◌, ◌*ℤ◌, ◌<ℤ◌, refl, ap, ◌∙◌, subst, arith}
+use Rattle.std.proofs.Common.{◌≡◌, ℕ, ◌+◌, inl, inr, false, List, [], ◌∷◌, length, map, ℤ, Result, Ok, Err, IfOk, pos, ◌+ℤ◌, ◌*ℤ◌, ◌<ℤ◌, refl, ap, ◌∙◌, subst, arith}
 use Rattle.std.specs.List.{zip, enumerate_from, range_with_len}
 use Rattle.std.proofs.lemmas.Bool.{cases_lt}
 use Rattle.std.proofs.lemmas.Int.{ints}
@@ -11,7 +11,7 @@ use Rattle.par_task.specs.Marking.{marks_of, no_test}
 use Rattle.par_task.specs.Audits.{IsAudit, threshold_of}
 use Rattle.par_task.specs.declared.audit.Leaf.{Leaf}
 use Rattle.par_transform.specs.Indexes.{indexes, with_indexes}
-use Rattle.par_transform.specs.Runs.{IsRunAlone, untested}
+use Rattle.par_jobs.specs.Runs.{IsRunAlone, untested}
 
 same_marks : {X Y : Type 0} (xs : List X) (ys : List Y) → length xs ≡ length ys → marks_of no_test (map untested xs) ≡ marks_of no_test (map untested ys)
 same_marks [] [] e = refl
@@ -20,7 +20,7 @@ same_marks (x ∷ xs) [] e = absurd (omega (arith, e))
 same_marks (x ∷ xs) (y ∷ ys) e = ap (λ l. false ∷ l) (same_marks xs ys (omega (arith, e)))
 
 -- a run without a test over as many items
-pub run_as : {X Y : Type 0} (xs : List X) (ys : List Y) (level : ℕ) (leaves : List Leaf) → length xs ≡ length ys → IsRunAlone no_test untested xs level leaves → IsRunAlone no_test untested ys level leaves
+run_as : {X Y : Type 0} (xs : List X) (ys : List Y) (level : ℕ) (leaves : List Leaf) → length xs ≡ length ys → IsRunAlone no_test untested xs level leaves → IsRunAlone no_test untested ys level leaves
 run_as xs ys level leaves e r = record {
   audit =
       subst (λ n. IsAudit no_test (marks_of no_test (map untested ys)) n (threshold_of n level) 1 leaves) e
@@ -28,6 +28,13 @@ run_as xs ys level leaves e r = record {
   chain = r.chain;
   tested = tt;
 }
+
+-- and so its answer tells of them, where there is one
+pub ran_as :
+    {X Y P E : Type 0} (xs : List X) (ys : List Y) (level : ℕ) (r : Result (P × List Leaf) E) → length xs ≡ length ys → IfOk r (λ a. IsRunAlone no_test untested xs level a.1) →
+    IfOk r (λ a. IsRunAlone no_test untested ys level a.1)
+ran_as xs ys level (Ok a) e h = run_as xs ys level a.1 e h
+ran_as xs ys level (Err e) _ h = tt
 
 -- the numbers from 0 on and before n are n
 pub count_up : (n : ℕ) → IsRangeCount (pos 0) (pos n) (pos 1) n

@@ -1,5 +1,3 @@
 pub mod Cutting
 pub mod Faults
 pub mod Items
-pub mod Stops
-pub mod Whole

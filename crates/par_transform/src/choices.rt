@@ -3,14 +3,13 @@ ghost use Rattle.std.specs.Prelude.{◌≡◌, ◌≤◌, length, map, IfOk};
 ghost use Rattle.std.specs.List.{filter};
 ghost use Rattle.par_lists.specs.Choices as lists;
 ghost use Rattle.par_task.specs.Marking.{no_flag, passes};
-ghost use Rattle.par_transform.specs.Faults.{IsTried, least_fault};
-ghost use Rattle.par_transform.specs.Runs.{IsRunAlone};
+ghost use Rattle.par_jobs.specs.Faults.{IsTried, least_fault};
+ghost use Rattle.par_jobs.specs.Runs.{IsRunAlone};
 
 use crate::collecting::Collecting;
-use crate::sifting::sift_alone;
 use par_combiner::Combiner;
 use par_edge::Gate;
-use par_jobs::{Nothing, Sifted};
+use par_jobs::{Nothing, Sifted, sift_alone};
 use par_laws::{Mapper, Memory, Shown, Test, Tried};
 use par_splitter::Precise;
 use par_task::Audit;

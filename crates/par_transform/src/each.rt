@@ -3,7 +3,7 @@ ghost use Rattle.std.specs.Prelude.{◌≡◌, ◌≤◌, length, map, reverse, 
 ghost use Rattle.std.specs.List.{zip};
 ghost use Rattle.par_task.specs.Marking.{no_test};
 ghost use Rattle.par_transform.specs.Indexes.{indexes, with_indexes};
-ghost use Rattle.par_transform.specs.Runs.{IsRunAlone, untested};
+ghost use Rattle.par_jobs.specs.Runs.{IsRunAlone, untested};
 
 use crate::gathering::collect_all;
 use crate::reversed::Reversed;

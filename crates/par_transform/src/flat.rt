@@ -2,14 +2,14 @@
 ghost use Rattle.std.specs.Prelude.{◌≡◌, ◌≤◌, length, IfOk, IfErr};
 ghost use Rattle.std.specs.List.{flat_map};
 ghost use Rattle.par_task.specs.Marking.{no_test};
-ghost use Rattle.par_transform.specs.Runs.{IsRunAlone, untested};
+ghost use Rattle.par_jobs.specs.Runs.{IsRunAlone, untested};
 ghost use Rattle.par_transform.specs.TooMany.{IsStop};
 
 use crate::flattening::{Flat, Flattening};
-use crate::gathering::gather_alone;
 use crate::stop::FlatStop;
 use par_combiner::Combiner;
 use par_edge::Gate;
+use par_jobs::gather_alone;
 use par_laws::{Mapper, Shown};
 use par_splitter::Precise;
 use par_task::Audit;

@@ -3,15 +3,13 @@ ghost use Rattle.std.specs.Prelude.{◌≡◌, ◌≤◌, length, map, take_whil
 ghost use Rattle.par_laws.specs.Verdict.{contrary};
 ghost use Rattle.par_lists.specs.Cuts as lists;
 ghost use Rattle.par_task.specs.Marking.{low_flag, passes};
-ghost use Rattle.par_transform.specs.Faults.{IsTried, stop_fault};
-ghost use Rattle.par_transform.specs.Runs.{IsRunAlone};
+ghost use Rattle.par_jobs.specs.Faults.{IsTried, fault_of};
+ghost use Rattle.par_jobs.specs.Runs.{IsRunAlone};
 
 use crate::collecting::Collecting;
-use crate::fronting::front_alone;
-use crate::looking::fault_here;
-use crate::spanning::spanned_alone;
 use par_combiner::Combiner;
 use par_edge::Gate;
+use par_jobs::{fault_here, front_alone, spanned_alone};
 use par_laws::{Mapper, Memory, Not, Shown, Test, Tried};
 use par_splitter::{Precise, Splitter};
 use par_task::Audit;
@@ -39,7 +37,7 @@ pub fn take_while_alone<
     requires begins { S.lo source ≡ 0 }
     requires small { length (S.items source) ≤ 4194304 }
     requires level { (1 ≤ level) × (level ≤ 64) }
-    ensures answer { IfOk result (λ r. IsTried (stop_fault (map (λ x. contrary (P.verdict test.now x)) (S.items source))) (λ out. C.stands out (map (F.mapped of.now) (take_while (λ x. passes (P.verdict test.now x)) (S.items source)))) r.0) }
+    ensures answer { IfOk result (λ r. IsTried (fault_of low_flag (map (λ x. contrary (P.verdict test.now x)) (S.items source))) (λ out. C.stands out (map (F.mapped of.now) (take_while (λ x. passes (P.verdict test.now x)) (S.items source)))) r.0) }
     ensures audit { IfOk result (λ r. IsRunAlone low_flag (λ x. contrary (P.verdict test.now x)) (S.items source) level r.1) }
 {
     let kept: Collecting<'_, F, C> = Collecting {
@@ -76,7 +74,7 @@ pub fn drop_while_alone<
     requires begins { S.lo source ≡ 0 }
     requires small { length (S.items source) ≤ 4194304 }
     requires level { (1 ≤ level) × (level ≤ 64) }
-    ensures answer { IfOk result (λ r. IsTried (stop_fault (map (λ x. contrary (P.verdict test.now x)) (S.items source))) (λ out. C.stands out (map (F.mapped of.now) (lists.drop_while (λ x. passes (P.verdict test.now x)) (S.items source)))) r.0) }
+    ensures answer { IfOk result (λ r. IsTried (fault_of low_flag (map (λ x. contrary (P.verdict test.now x)) (S.items source))) (λ out. C.stands out (map (F.mapped of.now) (lists.drop_while (λ x. passes (P.verdict test.now x)) (S.items source)))) r.0) }
     ensures audit { IfOk result (λ r. IsRunAlone low_flag (λ x. contrary (P.verdict test.now x)) (S.items source) level r.1) }
 {
     let kept: Collecting<'_, F, C> = Collecting {
@@ -106,7 +104,7 @@ pub fn span_alone<S: Precise, C: Combiner, G: Gate, P: Test<S::Item>, F: Mapper<
     requires begins { S.lo source ≡ 0 }
     requires small { length (S.items source) ≤ 4194304 }
     requires level { (1 ≤ level) × (level ≤ 64) }
-    ensures answer { IfOk result (λ r. IsTried (stop_fault (map (λ x. contrary (P.verdict test.now x)) (S.items source))) (λ out. C.stands out.0 (map (F.mapped of.now) (lists.span (λ x. passes (P.verdict test.now x)) (S.items source)).0) × C.stands out.1 (map (F.mapped of.now) (lists.span (λ x. passes (P.verdict test.now x)) (S.items source)).1)) r.0) }
+    ensures answer { IfOk result (λ r. IsTried (fault_of low_flag (map (λ x. contrary (P.verdict test.now x)) (S.items source))) (λ out. C.stands out.0 (map (F.mapped of.now) (lists.span (λ x. passes (P.verdict test.now x)) (S.items source)).0) × C.stands out.1 (map (F.mapped of.now) (lists.span (λ x. passes (P.verdict test.now x)) (S.items source)).1)) r.0) }
     ensures audit { IfOk result (λ r. IsRunAlone low_flag (λ x. contrary (P.verdict test.now x)) (S.items source) level r.1) }
 {
     let kept: Collecting<'_, F, C> = Collecting {

@@ -1,40 +1,17 @@
-//! A run over all items, without a test.
+//! What is made of all items, gathered in a combiner.
 ghost use Rattle.std.specs.Prelude.{◌≡◌, ◌≤◌, length, map, IfOk};
 ghost use Rattle.par_task.specs.Marking.{no_test};
-ghost use Rattle.par_transform.specs.Runs.{IsRunAlone, untested};
+ghost use Rattle.par_jobs.specs.Runs.{IsRunAlone, untested};
 
 use crate::collecting::Collecting;
 use par_combiner::Combiner;
 use par_edge::Gate;
-use par_jobs::{Builder, GatherJob};
-use par_laws::{Mapper, Memory, Never, Shown};
+use par_jobs::gather_alone;
+use par_laws::{Mapper, Memory, Shown};
 use par_splitter::Splitter;
-use par_task::{Audit, Marked, run_alone};
+use par_task::Audit;
 use std::alloc::Global;
 use std::marker::PhantomData;
-
-/// What is built of all items. Its one error is want of memory.
-pub(crate) fn gather_alone<S: Splitter, B: Builder<S::Item>, G: Gate>(
-    alloc: Global,
-    source: S,
-    builder: &B,
-    level: u32,
-    gate: &G,
-) -> Result<(B::Built, Audit), Memory>
-    requires begins { S.lo source ≡ 0 }
-    requires small { length (S.items source) ≤ 4194304 }
-    requires level { (1 ≤ level) × (level ≤ 64) }
-    ensures built { IfOk result (λ r. B.built builder.now (S.items source) (B.Built.shown r.0)) }
-    ensures audit { IfOk result (λ r. IsRunAlone no_test untested (S.items source) level r.1) }
-{
-    let split = source.dup();
-    let job = GatherJob {
-        marked: Marked::over(&split, &Never, false),
-        builder,
-    };
-    let marks = Marked::over(&split, &Never, false);
-    run_alone(alloc, &job, &Never, &marks, source, level, gate)
-}
 
 /// What `of` makes of all items, in order. Its one error is want of memory.
 pub(crate) fn collect_all<S: Splitter, C: Combiner, G: Gate, F: Mapper<S::Item, C::Item>>(

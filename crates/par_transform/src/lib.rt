@@ -16,8 +16,8 @@
 //! | `take_while_alone`, `drop_while_alone`, `span_alone` | ends at the first item that doesn't pass |
 //! | `take`, `drop`, `slice`, `split_at` | none: they cut, and copy |
 //!
-//! Contracts speak of the lists in `specs/` of `par_lists` and std. `Faults` says which fault is a call's, and `Runs` what
-//! an audit tells.
+//! Contracts speak of the lists in `specs/` of `par_lists` and std. `Faults` in `specs/` of `par_jobs` says which fault is
+//! a call's, and `Runs` there what an audit tells. A call runs the job of its family by a function of `par_jobs`.
 #![tactic(auto)]
 
 mod choices;
@@ -26,13 +26,9 @@ mod cuts;
 mod each;
 mod flat;
 mod flattening;
-mod fronting;
 mod fronts;
 mod gathering;
-mod looking;
 mod reversed;
-mod sifting;
-mod spanning;
 mod stop;
 #[cfg(test)]
 mod tests;

@@ -1,4 +1,4 @@
-use Rattle.std.proofs.Common.{◌≡◌, ℕ, List, ◌++◌, length}
+use Rattle.std.proofs.Common.{◌≡◌, List, ◌++◌, length}
 use Rattle.par_jobs.proofs.keeping.add_all.Given as goal
 
 abbrev pub invariant-loop-item : goal.invariant-loop-item

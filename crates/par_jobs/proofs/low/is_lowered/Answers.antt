@@ -1,5 +1,5 @@
-use Rattle.std.proofs.Common.{rules, arith, ◌≡◌, ℕ, ◌<◌, ◌≤◌, true, ap, sym, ◌∙◌}
-use Rattle.par_jobs.proofs.Fronts.{low_past, low_read}
+use Rattle.std.proofs.Common.{rules, arith, ◌≤◌}
+use Rattle.par_jobs.proofs.Fronts.{low_past}
 use Rattle.par_jobs.proofs.low.is_lowered.Goals as goal
 
 pub returns-clause-read : goal.returns-clause-read

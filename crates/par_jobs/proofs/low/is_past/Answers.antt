@@ -1,4 +1,4 @@
-use Rattle.std.proofs.Common.{rules, arith, ◌≡◌, ℕ, ◌-◌, ◌<◌, ◌≤◌, true}
+use Rattle.std.proofs.Common.{arith}
 use Rattle.par_jobs.proofs.low.is_past.Goals as goal
 
 pub returns-clause-past : goal.returns-clause-past

@@ -1,15 +1,15 @@
-use Rattle.std.proofs.Common.{◌≡◌, ℕ, ◌+◌, ◌-◌, ◌≤◌, ◌<◌, length, map, get_or, true, false, Bool, List, [], ◌∷◌, ◌++◌, refl, ap, sym, ◌∙◌, subst, arith, rules}
+use Rattle.std.proofs.Common.{◌≡◌, ◌+◌, ◌-◌, ◌≤◌, ◌<◌, length, map, refl, ap, sym, ◌∙◌, subst, arith}
 use Rattle.std.proofs.lemmas.Bool.{false≢true}
 use Rattle.par_laws.specs.Marks.{IsMarked, Clear, stop}
-use Rattle.par_signal.specs.Seen.{Seen, Flags}
+use Rattle.par_signal.specs.Seen.{Flags}
 use Rattle.par_signal.specs.Values.{IsLow}
 use Rattle.par_task.specs.Marking.{low_flag, marks_of, halts}
 use Rattle.par_task.specs.Leaves.{IsReadAgain}
 use Rattle.par_task.specs.Parts.{between}
 use Rattle.par_task.proofs.Running.{marks_length}
 use Rattle.par_task.proofs.Stops.{stop_least}
-use Rattle.par_jobs.proofs.Scanning.{scan_begins, scan_next, mark_at, low_skips, low_ends, low_finds, low_breaks, later_join}
-use Rattle.par_jobs.proofs.Fronts.{low_past, between_none, between_more, few_between, low_read, low_read_none, low_read_later, low_read_join, low_read_fresh, lower_later}
+use Rattle.par_jobs.proofs.Scanning.{scan_begins, scan_next, mark_at, low_ends, low_finds, low_breaks, later_join}
+use Rattle.par_jobs.proofs.Fronts.{between_none, between_more, few_between, low_read_none, low_read_later, low_read_join, low_read_fresh}
 use Rattle.par_jobs.proofs.low.pass_items.Goals as goal
 
 pub loop-item-init : goal.loop-item-init

@@ -1,4 +1,4 @@
-use Rattle.std.proofs.Common.{◌≡◌, ℕ, ◌+◌, ◌≤◌, ◌<◌, length, map}
+use Rattle.std.proofs.Common.{◌≡◌, ◌+◌, ◌≤◌, ◌<◌, length, map}
 use Rattle.par_signal.specs.Values.{IsLow}
 use Rattle.par_task.specs.Marking.{low_flag, marks_of}
 use Rattle.par_task.specs.Parts.{between}

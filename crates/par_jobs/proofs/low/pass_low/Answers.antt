@@ -1,11 +1,8 @@
-use Rattle.std.proofs.Common.{◌≡◌, ℕ, ◌+◌, ◌-◌, ◌≤◌, ◌<◌, length, map, true, false, refl, ap, sym, ◌∙◌, subst, arith, rules}
+use Rattle.std.proofs.Common.{◌≡◌, map, subst, arith}
 use Rattle.std.proofs.lemmas.Bool.{false≢true}
-use Rattle.par_signal.specs.Seen.{Flags}
 use Rattle.par_signal.specs.Values.{IsLow}
 use Rattle.par_task.specs.Marking.{low_flag, marks_of}
-use Rattle.par_task.proofs.Running.{marks_length}
-use Rattle.par_jobs.proofs.Scanning.{low_skips, later_join}
-use Rattle.par_jobs.proofs.Fronts.{low_past, between_none, low_read, low_read_later, low_read_fresh, leaf_after_read}
+use Rattle.par_jobs.proofs.Fronts.{low_past, between_none}
 use Rattle.par_jobs.proofs.low.pass_low.Goals as goal
 
 pub returns-then-flag-lo-clause-passed : goal.returns-then-flag-lo-clause-passed

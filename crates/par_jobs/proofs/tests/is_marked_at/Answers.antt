@@ -1,4 +1,4 @@
-use Rattle.std.proofs.Common.{◌≡◌, ◌∙◌, ℕ, ◌+◌, ◌<◌, ◌≤◌, min, refl, sym, ap, subst, true, List, [], ◌∷◌, ◌++◌, length, length-append, map, arith}
+use Rattle.std.proofs.Common.{◌≡◌, ◌∙◌, ℕ, min, refl, sym, ap, subst, List, [], ◌∷◌, ◌++◌, length, length-append, arith}
 use Rattle.std.proofs.lemmas.List.{append-nil}
 use Rattle.par_task.specs.Marking.{low_flag, halts}
 use Rattle.par_task.specs.Spans.{IsSpan}

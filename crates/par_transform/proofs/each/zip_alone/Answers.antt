@@ -1,7 +1,7 @@
 use Rattle.std.proofs.Common.{ap, length, IfOk, subst, arith}
 use Rattle.std.proofs.lemmas.Slice.Zip.{length-zip}
 use Rattle.par_task.specs.Marking.{no_test}
-use Rattle.par_transform.specs.Runs.{IsRunAlone, untested}
+use Rattle.par_jobs.specs.Runs.{IsRunAlone, untested}
 use Rattle.par_transform.proofs.each.zip_alone.Goals as goal
 
 pub collect_all-requires-clause-small : goal.collect_all-requires-clause-small

@@ -1,8 +1,7 @@
 use Rattle.std.proofs.Common.{◌∙◌, ap, map, IfOk, subst}
 use Rattle.std.specs.List.{zip}
 use Rattle.par_transform.specs.Indexes.{indexes}
-use Rattle.par_transform.proofs.Items.{length_pairs, run_as, zip_indexes}
-use Rattle.par_transform.proofs.Whole.{ok_map}
+use Rattle.par_transform.proofs.Items.{length_pairs, ran_as, zip_indexes}
 use Rattle.par_transform.proofs.each.zip_with_index_alone.Goals as goal
 
 pub returns-clause-answer : goal.returns-clause-answer
@@ -14,6 +13,4 @@ returns-clause-answer g c =
 pub returns-clause-audit : goal.returns-clause-audit
 returns-clause-audit g c =
     let items = g.S.Splitter.items c.args.source in
-    ok_map c.zip_alone.result _ _
-    (λ a ran. run_as _ items c.args.level a.1 (length_pairs items _ (c.indexes_of-indexes.ensures ∙ ap indexes c.remaining.ensures)) ran)
-    c.zip_alone.ensures.audit
+    ran_as _ items c.args.level c.zip_alone.result (length_pairs items _ (c.indexes_of-indexes.ensures ∙ ap indexes c.remaining.ensures)) c.zip_alone.ensures.audit

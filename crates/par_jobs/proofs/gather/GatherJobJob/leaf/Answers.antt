@@ -1,4 +1,4 @@
-use Rattle.std.proofs.Common.{◌≡◌, ℕ, ◌+◌, ◌≤◌, length, map, [], refl, ap, sym, ◌∙◌, subst, arith, rules}
+use Rattle.std.proofs.Common.{[], refl, ◌∙◌, subst, arith}
 use Rattle.par_laws.specs.declared.test.Verdict.TheVariants.{Fail}
 use Rattle.par_task.specs.Marking.{no_test}
 use Rattle.par_task.proofs.Running.{marks_length}

@@ -1,4 +1,4 @@
-use Rattle.std.proofs.Common.{◌≡◌, ℕ, ◌+◌, ◌-◌, ◌≤◌, length, map, ap, sym, ◌∙◌, arith, rules}
+use Rattle.std.proofs.Common.{arith}
 use mathlib.Core.Logic.{∥∥₁_elim, ∥∥₁_map, ∥∥₁_prop}
 use Rattle.par_jobs.proofs.Fronts.{length-between}
 use Rattle.par_jobs.proofs.gather.GatherJobJob.merge.Goals as goal

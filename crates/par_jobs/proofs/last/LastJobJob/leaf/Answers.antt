@@ -1,6 +1,5 @@
-use Rattle.std.proofs.Common.{◌≡◌, ℕ, ◌+◌, ◌-◌, ◌≤◌, ◌<◌, length, map, get_or, true, false, Bool, List, [], ◌∷◌, ◌++◌, refl, ap, sym, ◌∙◌, subst, arith, rules}
+use Rattle.std.proofs.Common.{◌≡◌, ◌+◌, ◌-◌, length, map, [], refl, ap, sym, ◌∙◌, subst, arith}
 use Rattle.par_laws.specs.Marks.{IsMarked}
-use Rattle.par_signal.specs.Seen.{Seen}
 use Rattle.par_signal.specs.Values.{IsHigh}
 use Rattle.par_task.specs.Marking.{high_flag, marks_of, halts}
 use Rattle.par_task.proofs.Running.{marks_length}

@@ -1,4 +1,4 @@
-use Rattle.std.proofs.Common.{◌≡◌, ℕ, ◌+◌, ◌≤◌, length, map, []}
+use Rattle.std.proofs.Common.{◌≡◌, ◌+◌, length, map, []}
 use Rattle.par_task.specs.Marking.{high_flag, marks_of}
 use Rattle.par_jobs.proofs.Lasts.{IsBest}
 use Rattle.par_jobs.proofs.Scanning.{IsScanning}

@@ -1,7 +1,5 @@
-use Rattle.std.proofs.Common.{◌≡◌, ℕ, ◌+◌, ◌-◌, ◌≤◌, ◌<◌, length, map, get_or, true, false, Bool, List, [], ◌∷◌, ◌++◌, refl, ap, sym, ◌∙◌, subst, arith, rules}
-use Rattle.par_laws.specs.declared.test.Verdict.TheVariants.{Fail}
+use Rattle.std.proofs.Common.{◌≡◌, ◌+◌, ◌-◌, ◌≤◌, ◌<◌, length, map, refl, ap, sym, ◌∙◌, subst, arith}
 use Rattle.par_laws.specs.Marks.{IsMarked, Clear}
-use Rattle.par_signal.specs.Seen.{Seen}
 use Rattle.par_task.specs.Marking.{abort_flag, marks_of, passes}
 use Rattle.par_task.specs.Leaves.{IsReadAgain}
 use Rattle.par_task.proofs.Running.{marks_length}

@@ -1,4 +1,4 @@
-use Rattle.std.proofs.Common.{◌≡◌, ℕ, ◌+◌, ◌≤◌, length, map}
+use Rattle.std.proofs.Common.{◌≡◌, ◌+◌, length, map}
 use Rattle.par_signal.specs.Values.{IsSet}
 use Rattle.par_task.specs.Marking.{abort_flag, marks_of}
 use Rattle.par_jobs.specs.Steps.{IsGoingOn}

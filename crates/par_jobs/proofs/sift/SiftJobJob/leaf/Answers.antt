@@ -1,6 +1,5 @@
-use Rattle.std.proofs.Common.{◌≡◌, ℕ, ◌+◌, ◌-◌, ◌≤◌, ◌<◌, length, map, get_or, true, false, Bool, List, [], ◌∷◌, ◌++◌, refl, ap, sym, ◌∙◌, subst, arith, rules}
+use Rattle.std.proofs.Common.{◌≡◌, ◌+◌, length, map, [], ◌++◌, refl, ap, sym, ◌∙◌, subst, arith}
 use Rattle.std.specs.List.{filter}
-use Rattle.par_laws.specs.declared.test.Verdict.TheVariants.{Fail}
 use Rattle.par_task.specs.Marking.{no_flag, passes}
 use Rattle.par_task.specs.Parts.{between}
 use Rattle.par_task.proofs.Running.{marks_length}

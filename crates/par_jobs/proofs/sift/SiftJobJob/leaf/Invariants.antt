@@ -1,4 +1,4 @@
-use Rattle.std.proofs.Common.{◌≡◌, ℕ, ◌+◌, ◌≤◌, length, map, []}
+use Rattle.std.proofs.Common.{◌≡◌, ◌+◌, length, map, []}
 use Rattle.std.specs.List.{filter}
 use Rattle.par_task.specs.Marking.{passes}
 use Rattle.par_task.specs.Parts.{between}

@@ -1,6 +1,5 @@
-use Rattle.std.proofs.Common.{◌≡◌, ℕ, ◌+◌, ◌-◌, ◌≤◌, length, map, ap, sym, ◌∙◌, arith, rules}
+use Rattle.std.proofs.Common.{arith}
 use mathlib.Core.Logic.{∥∥₁_elim, ∥∥₁_map, ∥∥₁_prop}
-use Rattle.std.specs.List.{filter}
 use Rattle.par_task.specs.Marking.{passes}
 use Rattle.par_task.specs.Parts.{between}
 use Rattle.par_jobs.specs.Steps.{fails}

@@ -1,4 +1,4 @@
-use Rattle.std.proofs.Common.{◌≡◌, ℕ, ◌+◌, ◌≤◌, length, map, refl, sym, subst, arith, rules}
+use Rattle.std.proofs.Common.{◌≡◌, length, map, refl, arith}
 use Rattle.par_task.specs.Marking.{low_flag, marks_of}
 use Rattle.par_task.proofs.Running.{marks_length}
 use Rattle.par_jobs.proofs.Spanning.{spanned_of, few_left}

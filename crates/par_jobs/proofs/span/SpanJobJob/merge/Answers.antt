@@ -1,4 +1,4 @@
-use Rattle.std.proofs.Common.{◌≡◌, ℕ, ◌+◌, ◌-◌, ◌≤◌, length, map, arith, rules}
+use Rattle.std.proofs.Common.{map, arith}
 use mathlib.Core.Logic.{∥∥₁_elim, ∥∥₁_map, ∥∥₁_prop}
 use Rattle.par_task.specs.Parts.{between}
 use Rattle.par_task.specs.Marking.{low_flag, marks_of}

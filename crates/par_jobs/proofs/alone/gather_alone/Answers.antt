@@ -1,8 +1,8 @@
 use Rattle.std.proofs.Common.{◌∙◌, IfOk, ap, sym, subst}
 use Rattle.par_task.specs.Marking.{no_test}
-use Rattle.par_transform.specs.Runs.{IsRunAlone, untested}
-use Rattle.par_transform.proofs.Whole.{between_all, never_marks, ok_map, ran_alone}
-use Rattle.par_transform.proofs.gathering.gather_alone.Goals as goal
+use Rattle.par_jobs.specs.Runs.{IsRunAlone, untested}
+use Rattle.par_jobs.proofs.Whole.{between_all, never_marks, ok_map, ran_alone}
+use Rattle.par_jobs.proofs.alone.gather_alone.Goals as goal
 
 pub run_alone-requires-clause-marks : goal.run_alone-requires-clause-marks
 run_alone-requires-clause-marks g c = rw (c.over-marks.ensures ∙ sym c.over.ensures) (never_marks _ _)

@@ -1,10 +1,10 @@
 use Rattle.par_task.specs.Marking.{no_flag}
 use Rattle.par_jobs.specs.Merges.{sifted_shown}
-use Rattle.par_transform.specs.Runs.{IsRunAlone}
-use Rattle.par_transform.specs.Sifting.{IsSiftedAll}
-use Rattle.par_transform.proofs.Faults.{sifted_all}
-use Rattle.par_transform.proofs.Whole.{ok_map, ran_alone, retold}
-use Rattle.par_transform.proofs.sifting.sift_alone.Goals as goal
+use Rattle.par_jobs.specs.Runs.{IsRunAlone}
+use Rattle.par_jobs.specs.Whole.{IsSiftedAll}
+use Rattle.par_jobs.proofs.Leasts.{sifted_all}
+use Rattle.par_jobs.proofs.Whole.{ok_map, ran_alone, retold}
+use Rattle.par_jobs.proofs.alone.sift_alone.Goals as goal
 
 pub returns-clause-sifted : goal.returns-clause-sifted
 returns-clause-sifted g c =

@@ -1,10 +1,10 @@
-use Rattle.std.proofs.Common.{◌≡◌, map, take}
+use Rattle.std.proofs.Common.{◌≡◌, ◌≤◌, length, map, take}
 use Rattle.par_laws.specs.Marks.{stop}
 use Rattle.par_task.specs.Marking.{low_flag, marks_of}
-use Rattle.par_transform.specs.Runs.{IsRunAlone}
-use Rattle.par_transform.proofs.Stops.{front_end, front_kept}
-use Rattle.par_transform.proofs.Whole.{ok_map, ran_alone, retold}
-use Rattle.par_transform.proofs.fronting.front_alone.Goals as goal
+use Rattle.par_jobs.specs.Runs.{IsRunAlone}
+use Rattle.par_jobs.proofs.Whole.{end_within, front_end, front_kept}
+use Rattle.par_jobs.proofs.Whole.{ok_map, ran_alone, retold}
+use Rattle.par_jobs.proofs.alone.front_alone.Goals as goal
 
 pub returns-clause-end : goal.returns-clause-end
 returns-clause-end g c =
@@ -18,6 +18,12 @@ returns-clause-kept g c =
     retold g.S.Splitter.items c.over.result c.dup-split.result c.args.source c.args.test.now _ c.run_alone.result
     (λ p xs a. built (take (stop (marks_of low_flag (map (g.P.Test.verdict p) xs))) xs) (g.B.Built.Shown.shown a.0.kept)) c.over.ensures c.dup-split.ensures.items_same
     (ok_map c.run_alone.result _ _ (λ a good. front_kept (g.P.Test.verdict c.over.result.inner) built _ _ _ _ good) c.run_alone.ensures.good)
+
+pub returns-clause-within : goal.returns-clause-within
+returns-clause-within g c =
+    retold g.S.Splitter.items c.over.result c.dup-split.result c.args.source c.args.test.now _ c.run_alone.result
+    (λ p xs a. a.0.end ≤ length xs) c.over.ensures c.dup-split.ensures.items_same
+    (ok_map c.run_alone.result _ _ (λ a good. end_within (g.P.Test.verdict c.over.result.inner) _ _ (front_end (g.P.Test.verdict c.over.result.inner) _ _ _ _ _ good)) c.run_alone.ensures.good)
 
 pub returns-clause-audit : goal.returns-clause-audit
 returns-clause-audit g c =
