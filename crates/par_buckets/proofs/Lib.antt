@@ -1,3 +1,5 @@
 pub mod Held
 pub mod Values
 pub mod Sets
+pub mod Filling
+pub mod Alike

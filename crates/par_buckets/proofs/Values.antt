@@ -22,7 +22,7 @@ not_so false f = refl
 pub neq-eqb : (a b : ℕ) → a ≢ b → (a == b) ≡ false
 neq-eqb a b n = grind (arith, nat_tests)
 
-or-none : {X : Type 0} (a : Option X) → option_or a None ≡ a
+pub or-none : {X : Type 0} (a : Option X) → option_or a None ≡ a
 or-none None = refl
 or-none (Some x) = refl
 
@@ -71,6 +71,11 @@ module _ {K V : Type 0} where
   without t true false p ps qs e h s = absurd (true≢false (sym (h refl)))
   without t false false p ps qs e h s = s
 
+-- the values of a key as contracts see them
+pub values-shown : {K V S W : Type 0} (eq : K → K → Bool) (same : S → S → Bool) (seek : K → S) (see : V → W) (told : (x y : K) → eq x y ≡ same (seek x) (seek y)) (k : K) (ps : List (K × V)) → map see (values_with (eq k) ps) ≡ values_with (same (seek k)) (map (λ p. (seek p.0, see p.1)) ps)
+values-shown eq same seek see told k [] = refl
+values-shown eq same seek see told k (p ∷ ps) = shown-cond (eq k p.0) (same (seek k) (seek p.0)) see p.1 (values_with (eq k) ps) (values_with (same (seek k)) (map (λ q. (seek q.0, see q.1)) ps)) (told k p.0) (values-shown eq same seek see told k ps)
+
 module _ {K V : Type 0} (eq : K → K → Bool) (o : IsEquivalence eq) where
   -- the value of a key after inserts
   pub lookup-insert_entries : (es ps : List (K × V)) (k : K) → lookup (eq k) (insert_entries eq es ps) ≡ option_or (last_item (values_with (eq k) ps)) (lookup (eq k) es)
@@ -99,10 +104,6 @@ module _ {K V : Type 0} (eq : K → K → Bool) (o : IsEquivalence eq) where
         (ap (values_with (eq k)) (is.sorted (bucket k) (few k)) ∙ own k ps)
 
     module _ {S W : Type 0} (same : S → S → Bool) (seek : K → S) (see : V → W) (told : (x y : K) → eq x y ≡ same (seek x) (seek y)) where
-      pub values-shown : (k : K) (ps : List (K × V)) → map see (values_with (eq k) ps) ≡ values_with (same (seek k)) (map (λ p. (seek p.0, see p.1)) ps)
-      values-shown k [] = refl
-      values-shown k (p ∷ ps) = shown-cond (eq k p.0) (same (seek k) (seek p.0)) see p.1 (values_with (eq k) ps) (values_with (same (seek k)) (map (λ q. (seek q.0, see q.1)) ps)) (told k p.0) (values-shown k ps)
-
       pub is_map_of : (out : List (K × V)) (v : ℕ × List (List (K × V))) (xs : List (S × W)) → out ≡ insert_entries eq [] (joined v.1) → IsDistinct eq (keys_of out) → Has (λ p. bucket p.0) (λ p. (seek p.0, see p.1)) v xs → IsMapOf eq same seek see out xs
       is_map_of out v xs e d h = record {
         distinct = d;
@@ -110,7 +111,7 @@ module _ {K V : Type 0} (eq : K → K → Bool) (o : IsEquivalence eq) where
             ap (option_map see) (ap (lookup (eq k)) e ∙ (lookup-insert_entries [] (joined v.1) k ∙ or-none (last_item (values_with (eq k) (joined v.1)))))
             ∙ (last-map see (values_with (eq k) (joined v.1))
             ∙ (ap (λ vs. last_item (map see vs)) (values-sorted v h.0 k h.1)
-            ∙ (ap last_item (values-shown k h.0)
+            ∙ (ap last_item (values-shown eq same seek see told k h.0)
             ∙ ap (λ ys. last_item (values_with (same (seek k)) ys)) h.2)));
       }
 
@@ -134,11 +135,11 @@ if_ok_then Q (Ok t) p f = f p t
 if_ok_then Q (Err e) p f = tt
 
 -- a group with more values at its end
-abbrev grown : {V : Type 0} → Option (List V) → List V → Option (List V)
+abbrev pub grown : {V : Type 0} → Option (List V) → List V → Option (List V)
 grown r [] = r
 grown r (v ∷ vs) = Some (unwrap_or r [] ++ v ∷ vs)
 
-grown-none : {V : Type 0} (vs : List V) → grown None vs ≡ some_items vs
+pub grown-none : {V : Type 0} (vs : List V) → grown None vs ≡ some_items vs
 grown-none [] = refl
 grown-none (v ∷ vs) = refl
 
@@ -147,11 +148,11 @@ grown-step true v [] r was e = rw (e refl) refl
 grown-step true v (u ∷ vs) r was e = rw (e refl) (ap Some (append_assoc (unwrap_or r []) (v ∷ []) (u ∷ vs)))
 grown-step false v vs r was e = refl
 
-map-some : {V W : Type 0} (f : V → W) (vs : List V) → option_map (map f) (some_items vs) ≡ some_items (map f vs)
+pub map-some : {V W : Type 0} (f : V → W) (vs : List V) → option_map (map f) (some_items vs) ≡ some_items (map f vs)
 map-some f [] = refl
 map-some f (v ∷ vs) = refl
 
-map-twice : {X Y Z : Type 0} (f : X → Y) (g : Y → Z) (r : Option X) → option_map (λ x. g (f x)) r ≡ option_map g (option_map f r)
+pub map-twice : {X Y Z : Type 0} (f : X → Y) (g : Y → Z) (r : Option X) → option_map (λ x. g (f x)) r ≡ option_map g (option_map f r)
 map-twice f g None = refl
 map-twice f g (Some x) = refl
 
@@ -169,7 +170,7 @@ module _ {K : Type 0} (eq : K → K → Bool) (o : IsEquivalence eq) where
   alike_lookup k q (e ∷ es) t = rw (o.congr k q e.0 t, alike_lookup k q es t) refl
 
   -- the group of a key after pushes
-  lookup-push_to_groups : {V : Type 0} (gs : List (K × List V)) (ps : List (K × V)) (k : K) → lookup (eq k) (push_to_groups eq gs ps) ≡ grown (lookup (eq k) gs) (values_with (eq k) ps)
+  pub lookup-push_to_groups : {V : Type 0} (gs : List (K × List V)) (ps : List (K × V)) (k : K) → lookup (eq k) (push_to_groups eq gs ps) ≡ grown (lookup (eq k) gs) (values_with (eq k) ps)
   lookup-push_to_groups gs [] k = refl
   lookup-push_to_groups gs (p ∷ ps) k =
       lookup-push_to_groups (push_to_group eq gs p.0 p.1) ps k
@@ -185,6 +186,6 @@ module _ {K : Type 0} (eq : K → K → Bool) (o : IsEquivalence eq) where
           ∙ (ap (option_map (map see)) (sym (lookup-map_values (λ (u : Vec V). u.items) (eq k) out) ∙ (ap (lookup (eq k)) e ∙ (lookup-push_to_groups [] (joined v.1) k ∙ grown-none (values_with (eq k) (joined v.1)))))
           ∙ (map-some see (values_with (eq k) (joined v.1))
           ∙ (ap (λ vs. some_items (map see vs)) (values-sorted eq o bucket alike few v h.0 k h.1)
-          ∙ (ap some_items (values-shown eq o bucket alike few same seek see told k h.0)
+          ∙ (ap some_items (values-shown eq same seek see told k h.0)
           ∙ ap (λ ys. some_items (values_with (same (seek k)) ys)) h.2))));
     }

@@ -2,12 +2,15 @@ ghost use Rattle.std.specs.Prelude.{◌≡◌, ◌+◌, ◌≤◌, IfOk, OnOk, l
 ghost use Rattle.par_combiner.specs.Chunks.{items_of};
 ghost use Rattle.std.specs.List.{IsDistinct};
 ghost use Rattle.std.specs.Map.{keys_of};
+ghost use Rattle.std.specs.Ordering.{eq_by_cmp};
+ghost use Rattle.par_flat.specs.Blocks.{AreOfBucket};
+ghost use Rattle.par_trie.specs.Buckets.{bucket_of_hash};
 ghost use Rattle.par_index.specs.Entries.{groups_of};
-ghost use Rattle.par_buckets.specs.Values.{push_to_groups};
+ghost use Rattle.par_buckets.specs.Values.{push_to_groups, IsGroupsOf};
 
 use crate::pairs::{BucketCombiner, PairList};
 use par_combiner::Combiner;
-use par_laws::{Back, HashKey, MAX_ITEMS, Memory, Shown};
+use par_laws::{Back, HashKey, Keep, MAX_ITEMS, Memory, Shown};
 use par_trie::HashTrie;
 use std::alloc::Global;
 use std::collections::LinkedList;
@@ -26,10 +29,8 @@ impl<K: HashKey, V: Shown> Shown for GroupCombiner<K, V> {
 }
 
 impl<K: HashKey, V: Shown + Drop> Combiner for GroupCombiner<K, V> {
-    ghost use Rattle.std.specs.Ordering.{eq_by_cmp};
-    ghost use Rattle.par_trie.specs.Buckets.{bucket_of_hash};
     ghost use Rattle.par_buckets.specs.Held.{together};
-    ghost use Rattle.par_buckets.specs.Values.{Has, IsGroupsOf};
+    ghost use Rattle.par_buckets.specs.Values.{Has};
     ghost use Rattle.par_buckets.specs.Laws.{has-counts, has-together};
 
     type Item = (K, V);
@@ -88,6 +89,25 @@ impl<K: HashKey, V: Drop> GroupCombiner<K, V> {
     {
         self.pairs.into_buckets(alloc)
     }
+}
+
+/// The groups of one bucket's pairs: the values of each key, in order. Keys and values are copied, a chunk at a time.
+pub fn group_bucket<K: HashKey, V: Keep + Drop>(
+    alloc: Global,
+    _bucket: u32,
+    pairs: &PairList<K, V>,
+) -> Result<HashTrie<K, Vec<V>>, Memory>
+    requires room { length (items_of pairs.now) ≤ MAX_ITEMS }
+    requires keys { AreOfBucket (λ k. bucket_of_hash (K.hash (K.shown k))) _bucket (keys_of (items_of pairs.now)) }
+    ensures groups { IfOk result (λ trie. IsGroupsOf K.eq (eq_by_cmp K.order) K.shown V.shown trie (map (λ p. (K.shown p.0, V.shown p.1)) (items_of pairs.now))) }
+    ensures bucket { IfOk result (λ trie. AreOfBucket (λ k. bucket_of_hash (K.hash (K.shown k))) _bucket (keys_of trie)) }
+    ensures count { IfOk result (λ trie. length trie ≤ length (items_of pairs.now)) }
+{
+    let mut trie = HashTrie::new(alloc);
+    for chunk in pairs {
+        push_pairs(&mut trie, alloc, chunk.copy(alloc)?)?;
+    }
+    Ok(trie)
 }
 
 fn push_pairs<K: HashKey, V: Drop>(

@@ -10,8 +10,8 @@ mod map;
 mod pairs;
 mod set;
 
-pub use group::GroupCombiner;
-pub use map::MapCombiner;
+pub use group::{GroupCombiner, group_bucket};
+pub use map::{MapCombiner, map_bucket};
 pub use pairs::{BucketCombiner, PairList};
 pub use set::SetCombiner;
 

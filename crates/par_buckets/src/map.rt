@@ -1,12 +1,15 @@
 ghost use Rattle.std.specs.Prelude.{◌≡◌, ◌+◌, ◌≤◌, IfOk, OnOk, length, map};
 ghost use Rattle.par_combiner.specs.Chunks.{items_of};
 ghost use Rattle.std.specs.List.{IsDistinct};
+ghost use Rattle.std.specs.Ordering.{eq_by_cmp};
+ghost use Rattle.par_flat.specs.Blocks.{AreOfBucket};
+ghost use Rattle.par_trie.specs.Buckets.{bucket_of_hash};
 ghost use Rattle.std.specs.Map.{keys_of};
-ghost use Rattle.par_buckets.specs.Values.{insert_entries};
+ghost use Rattle.par_buckets.specs.Values.{insert_entries, IsMapOf};
 
 use crate::pairs::{BucketCombiner, PairList};
 use par_combiner::Combiner;
-use par_laws::{Back, HashKey, MAX_ITEMS, Memory, Shown};
+use par_laws::{Back, HashKey, Keep, MAX_ITEMS, Memory, Shown};
 use par_trie::HashTrie;
 use std::alloc::Global;
 use std::collections::LinkedList;
@@ -25,10 +28,8 @@ impl<K: HashKey, V: Shown> Shown for MapCombiner<K, V> {
 }
 
 impl<K: HashKey, V: Shown + Drop> Combiner for MapCombiner<K, V> {
-    ghost use Rattle.std.specs.Ordering.{eq_by_cmp};
-    ghost use Rattle.par_trie.specs.Buckets.{bucket_of_hash};
     ghost use Rattle.par_buckets.specs.Held.{together};
-    ghost use Rattle.par_buckets.specs.Values.{Has, IsMapOf};
+    ghost use Rattle.par_buckets.specs.Values.{Has};
     ghost use Rattle.par_buckets.specs.Laws.{has-counts, has-together};
 
     type Item = (K, V);
@@ -87,6 +88,25 @@ impl<K: HashKey, V: Drop> MapCombiner<K, V> {
     {
         self.pairs.into_buckets(alloc)
     }
+}
+
+/// The map of one bucket's pairs: the last value of each key. Keys and values are copied, a chunk at a time.
+pub fn map_bucket<K: HashKey, V: Keep + Drop>(
+    alloc: Global,
+    _bucket: u32,
+    pairs: &PairList<K, V>,
+) -> Result<HashTrie<K, V>, Memory>
+    requires room { length (items_of pairs.now) ≤ MAX_ITEMS }
+    requires keys { AreOfBucket (λ k. bucket_of_hash (K.hash (K.shown k))) _bucket (keys_of (items_of pairs.now)) }
+    ensures map { IfOk result (λ trie. IsMapOf K.eq (eq_by_cmp K.order) K.shown V.shown trie (map (λ p. (K.shown p.0, V.shown p.1)) (items_of pairs.now))) }
+    ensures bucket { IfOk result (λ trie. AreOfBucket (λ k. bucket_of_hash (K.hash (K.shown k))) _bucket (keys_of trie)) }
+    ensures count { IfOk result (λ trie. length trie ≤ length (items_of pairs.now)) }
+{
+    let mut trie = HashTrie::new(alloc);
+    for chunk in pairs {
+        insert_pairs(&mut trie, chunk.copy(alloc)?)?;
+    }
+    Ok(trie)
 }
 
 fn insert_pairs<K: HashKey, V: Drop>(

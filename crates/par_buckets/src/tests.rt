@@ -1,8 +1,17 @@
 //! What no clause says: that there is a result where there is memory.
-use crate::{GroupCombiner, MapCombiner, SetCombiner};
+
+ghost use Rattle.std.specs.Prelude.{◌≤◌, IfOk, length};
+ghost use Rattle.std.specs.Map.{keys_of};
+ghost use Rattle.par_laws.specs.Hash.{int_hash};
+ghost use Rattle.par_combiner.specs.Chunks.{items_of};
+ghost use Rattle.par_flat.specs.Blocks.{AreOfBucket};
+ghost use Rattle.par_trie.specs.Buckets.{bucket_of_hash};
+
+use crate::{GroupCombiner, MapCombiner, PairList, SetCombiner, group_bucket, map_bucket};
 use par_combiner::Combiner;
 use par_laws::Memory;
 use std::alloc::Global;
+use std::collections::LinkedList;
 use std::test::Fail;
 
 /// Of one hash, 0, with 0.
@@ -101,6 +110,39 @@ fn lists_of_buckets(rt: HostRuntime) -> Result<(), Fail> {
     }
     for (i, list) in set.into_buckets(alloc)?.iter().enumerate() {
         assert_eq!(rt; list.is_empty(), i != 0, "{i}");
+    }
+    Ok(())
+}
+
+/// Pairs of bucket 0 in two chunks.
+fn alike(alloc: Global) -> Result<PairList<i64, u64>, Memory>
+    ensures keys { IfOk result (λ pairs. AreOfBucket (λ k. bucket_of_hash (int_hash k)) 0 (keys_of (items_of pairs))) }
+    ensures few { IfOk result (λ pairs. length (items_of pairs) ≤ 3) }
+{
+    let mut first = Vec::new(alloc);
+    first.push((0, 1))?;
+    first.push((ALIKE, 2))?;
+    let mut second = Vec::new(alloc);
+    second.push((0, 3))?;
+    let mut pairs = LinkedList::new(alloc);
+    pairs.push_back(first)?;
+    pairs.push_back(second)?;
+    Ok(pairs)
+}
+
+#[test]
+fn one_bucket(rt: HostRuntime) -> Result<(), Fail> {
+    let alloc = rt.alloc();
+    let pairs = alike(alloc)?;
+    let map = map_bucket(alloc, 0, &pairs)?;
+    let groups = group_bucket(alloc, 0, &pairs)?;
+    assert_eq!(rt; (map.len(), groups.len()), (2, 2));
+    for (key, values) in [(0i64, &[1u64, 3] as &[u64]), (ALIKE, &[2])] {
+        assert_eq!(rt; map.get(&key), values.last(), "{key}");
+        match groups.get(&key) {
+            Some(found) => assert_eq!(rt; found.as_slice(), values, "{key}"),
+            None => assert!(rt; false, "{key}"),
+        }
     }
     Ok(())
 }
