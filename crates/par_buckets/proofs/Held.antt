@@ -1,14 +1,14 @@
 -- Lemmas on items by bucket.
-use Rattle.std.proofs.Common.{◌≡◌, ◌≢◌, ℕ, zero, suc, ◌+◌, ◌<◌, ◌≤◌, Bool, true, false, cond, List, [], ◌∷◌, ◌++◌, length, get_or, set, filter, replicate, refl, ap, sym, ◌∙◌, arith, append-nil, append_assoc, length-append, ◌⊎◌, ⊎_elim, eq-eqb, subst, map}
+use Rattle.std.proofs.Common.{◌≡◌, ◌≢◌, ℕ, zero, suc, ◌+◌, ◌<◌, ◌≤◌, false, cond, List, [], ◌∷◌, ◌++◌, length, get_or, set, filter, replicate, refl, ap, sym, ◌∙◌, arith, append-nil, append_assoc, length-append, ⊎_elim, eq-eqb, subst}
 use Rattle.std.specs.Prelude.{◌==◌}
 use Rattle.std.proofs.lemmas.Bool.{cases_eq}
 use Rattle.std.proofs.lemmas.Bool.Decides.{nat_tests}
-use Rattle.std.proofs.lemmas.List.{map-append, length-map, length-replicate, length-set, get_or-set_same, get_or-set_other}
+use Rattle.std.proofs.lemmas.List.{map-append, length-replicate, length-set, get_or-set_same, get_or-set_other}
 use Rattle.std.proofs.lemmas.List.Elements.{filter-append}
 use Rattle.par_index.specs.Entries.{joined}
 use Rattle.par_buckets.specs.Values.{Has}
-use Rattle.par_buckets.specs.Laws.{length-joined_each, at-joined_each}
-use Rattle.par_buckets.specs.Held.{added, joined_each, together, IsHeld, IsSorted}
+use Rattle.par_buckets.specs.Laws.{length-joined_each}
+use Rattle.par_buckets.specs.Held.{added, joined_each, IsHeld, IsSorted}
 
 neq-eqb : (a b : ℕ) → a ≢ b → (a == b) ≡ false
 neq-eqb a b n = grind (arith, nat_tests)

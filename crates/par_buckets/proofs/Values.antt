@@ -1,5 +1,5 @@
 -- Lemmas on the values of a key.
-use Rattle.std.proofs.Common.{◌≡◌, ◌≢◌, ℕ, zero, suc, ◌+◌, ◌<◌, ◌≤◌, Bool, true, false, true≢false, cond, List, [], ◌∷◌, ◌++◌, length, map, get_or, refl, ap, sym, ◌∙◌, arith, append-nil, append_assoc, length-append, ◌⊎◌, ⊎_elim, eq-eqb}
+use Rattle.std.proofs.Common.{◌≡◌, ◌≢◌, ℕ, zero, suc, ◌+◌, ◌<◌, ◌≤◌, Bool, true, false, true≢false, cond, List, [], ◌∷◌, ◌++◌, length, map, get_or, refl, ap, sym, ◌∙◌, arith, append-nil, append_assoc, length-append, ⊎_elim, eq-eqb}
 use Rattle.std.specs.Prelude.{Option, Some, None, is_some, ◌==◌, Result, Ok, Err, OnOk, IfOk}
 use Rattle.std.specs.List.{IsDistinct, filter}
 use Rattle.std.specs.Map.{lookup, keys_of, set_value}

@@ -1,10 +1,8 @@
-use Rattle.std.proofs.Common.{rules, ◌≡◌, ◌∙◌, ◌++◌, ◌∷◌, ◌+◌, ◌≤◌, ℕ, List, map, [], refl, ap, sym, subst, arith, length}
+use Rattle.std.proofs.Common.{rules, ◌≡◌, ◌∙◌, ◌++◌, ◌∷◌, ◌≤◌, List, map, [], ap, sym, arith, length}
 use Rattle.std.specs.Ordering.{eq_by_cmp, is_eq}
-use Rattle.std.specs.Map.{keys_of}
 use Rattle.par_index.specs.Entries.{groups_of}
 use Rattle.par_combiner.specs.Chunks.{items_of}
 use Rattle.par_trie.specs.Buckets.{bucket_of_hash}
-use Rattle.par_flat.specs.Keys.{insert_keys}
 use Rattle.par_buckets.specs.Values.{push_to_groups}
 use Rattle.par_buckets.proofs.Filling.{chunk_last, chunk_more, chunk_room, few_keys, is_groups_of_pairs, keys_of_groups, keys-copied, push_to_groups-append, same_length}
 use Rattle.par_buckets.proofs.group.group_bucket.Goals as goal

@@ -1,4 +1,4 @@
-use Rattle.std.proofs.Common.{rules, ◌≡◌, ◌∙◌, ◌+◌, ◌<◌, ◌≤◌, ℕ, List, [], ◌∷◌, ◌++◌, ap, sym, refl, length, get_or, set, arith, length-append, append_assoc}
+use Rattle.std.proofs.Common.{rules, ◌≡◌, ◌∙◌, ◌<◌, [], ◌∷◌, ◌++◌, ap, sym, refl, length, get_or, set, arith, length-append, append_assoc}
 use Rattle.par_buckets.specs.Held.{joined_each}
 use Rattle.par_buckets.specs.Laws.{length-joined_each}
 use Rattle.par_buckets.proofs.Held.{joined_each-none, joined_each-push, at-next, at_default, at-middle}

@@ -1,4 +1,4 @@
-use Rattle.std.proofs.Common.{◌≡◌, ◌∙◌, ◌+◌, ◌≤◌, ap, sym, ◌++◌, ◌∷◌, [], append_assoc, length, length-append, arith}
+use Rattle.std.proofs.Common.{◌∙◌, ap, sym, ◌++◌, ◌∷◌, [], append_assoc, length, length-append, arith}
 use Rattle.par_index.specs.Entries.{insert_entry}
 use Rattle.par_buckets.proofs.Values.{insert_entries-push, length-insert_entry}
 use Rattle.par_buckets.proofs.map.insert_pairs.Goals as goal

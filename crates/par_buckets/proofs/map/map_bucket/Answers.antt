@@ -1,9 +1,8 @@
-use Rattle.std.proofs.Common.{rules, ◌≡◌, ◌∙◌, ◌++◌, ◌∷◌, ◌+◌, ◌≤◌, ℕ, List, map, [], refl, ap, sym, subst, arith, length}
+use Rattle.std.proofs.Common.{rules, ◌≡◌, ◌∙◌, ◌++◌, ◌∷◌, ◌≤◌, List, map, [], ap, sym, arith, length}
 use Rattle.std.specs.Ordering.{eq_by_cmp, is_eq}
 use Rattle.std.specs.Map.{keys_of}
 use Rattle.par_combiner.specs.Chunks.{items_of}
 use Rattle.par_trie.specs.Buckets.{bucket_of_hash}
-use Rattle.par_flat.specs.Keys.{insert_keys}
 use Rattle.par_buckets.specs.Values.{insert_entries}
 use Rattle.par_buckets.proofs.Filling.{chunk_last, chunk_more, chunk_room, few_keys, insert_entries-append, is_map_of_pairs, keys_of-insert_entries, keys-copied, same_length}
 use Rattle.par_buckets.proofs.map.map_bucket.Goals as goal

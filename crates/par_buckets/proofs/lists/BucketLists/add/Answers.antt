@@ -1,4 +1,4 @@
-use Rattle.std.proofs.Common.{◌≡◌, ◌∙◌, ◌+◌, ◌<◌, ◌∷◌, ◌++◌, [], ap, sym, subst, arith, length, get_or, set}
+use Rattle.std.proofs.Common.{◌≡◌, ◌∙◌, ◌+◌, ◌∷◌, ◌++◌, [], ap, sym, subst, arith, length, get_or, set}
 use Rattle.par_buckets.specs.Held.{IsHeld}
 use Rattle.par_buckets.proofs.Held.{at_default, few-at, held-added}
 use Rattle.par_buckets.proofs.lists.BucketLists.add.Goals as goal

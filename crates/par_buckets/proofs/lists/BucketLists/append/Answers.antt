@@ -1,4 +1,4 @@
-use Rattle.std.proofs.Common.{sym, ap, subst, ◌+◌, ◌≤◌, arith, length}
+use Rattle.std.proofs.Common.{sym, ap, subst, ◌+◌, arith}
 use Rattle.par_buckets.specs.Held.{IsHeld}
 use Rattle.par_buckets.proofs.Held.{held-together, few-at}
 use Rattle.par_buckets.proofs.lists.BucketLists.append.Goals as goal

@@ -1,4 +1,4 @@
-use Rattle.std.proofs.Common.{rules, ◌≡◌, ◌∙◌, ◌+◌, ◌≤◌, ℕ, List, [], ◌∷◌, ◌++◌, ap, sym, subst, length, arith, append_assoc}
+use Rattle.std.proofs.Common.{◌≡◌, ◌∙◌, ◌≤◌, [], ◌∷◌, ◌++◌, ap, sym, length, arith, append_assoc}
 use Rattle.par_index.specs.Entries.{joined}
 use Rattle.par_buckets.proofs.Held.{joined-push, joined-fits}
 use Rattle.par_buckets.proofs.lists.BucketLists.into_vec.Goals as goal

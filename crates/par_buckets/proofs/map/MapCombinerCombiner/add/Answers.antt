@@ -1,4 +1,4 @@
-use Rattle.std.proofs.Common.{◌<◌, arith}
+use Rattle.std.proofs.Common.{arith}
 use Rattle.par_trie.specs.Buckets.{bucket_of_hash}
 use Rattle.par_buckets.proofs.Held.{has-added}
 use Rattle.par_buckets.proofs.Values.{if_ok_then}

@@ -1,4 +1,4 @@
-use Rattle.std.proofs.Common.{◌∙◌, ◌<◌, ap, arith}
+use Rattle.std.proofs.Common.{◌∙◌, ap}
 use Rattle.par_flat.specs.Rooms.{bucket_of_hash}
 use Rattle.par_buckets.specs.Held.{added}
 use Rattle.par_buckets.proofs.Held.{has-added}
