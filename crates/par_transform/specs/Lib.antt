@@ -2,3 +2,4 @@ pub mod Flattening
 pub mod Indexes
 pub mod Joins
 pub mod TooMany
+pub mod Stops

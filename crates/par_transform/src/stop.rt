@@ -13,6 +13,11 @@ pub enum FlatStop {
 }
 
 impl fmt::Display for FlatStop {
+    ghost use Rattle.std.specs.Prelude.{Some};
+    ghost use Rattle.par_transform.specs.Stops.{stop_text};
+
+    ghost output = { λ stop. Some (stop_text stop) };
+
     fn fmt<W: fmt::Write>(&self, f: &mut fmt::Formatter<W>) -> fmt::Result {
         match self {
             FlatStop::TooMany => write!(f, "too many items"),
