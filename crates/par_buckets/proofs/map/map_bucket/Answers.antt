@@ -31,10 +31,11 @@ loop-chunk-preserved g c = record {
   filled =
       let seen : g.row.K.Denot × g.row.V.Denot → g.row.K-Value.Denot × g.row.V-Value.Denot = λ p. (g.K.Shown.shown p.0, g.V.Shown.shown p.1) in
       let ps : List (g.row.K.Denot × g.row.V.Denot) = c.loop-chunk.invariant.filled.0 in
-      let next : map seen ps ++ map seen (items_of (c.in-Some.chunk.now ∷ c.next.new.self)) ≡ map seen (items_of c.args.pairs.now) = ap (λ chunks. map seen ps ++ map seen (items_of chunks)) (sym c.in-Some.ensures.steps) ∙ c.loop-chunk.invariant.filled.2 in
-      (ps ++ c.in_ok-copy.field-0.items,
-      c.in_ok-insert_pairs.ensures.pairs ∙ (ap (λ es. insert_entries g.K.PartialEq.eq es c.in_ok-copy.field-0.items) c.loop-chunk.invariant.filled.1 ∙ sym (insert_entries-append g.K.PartialEq.eq [] ps c.in_ok-copy.field-0.items)),
-      chunk_more seen ps c.in_ok-copy.field-0.items c.in-Some.chunk.now c.next.new.self c.args.pairs.now next c.in_ok-copy.ensures);
+      let next : map seen ps ++ map seen (items_of (c.in-Some.chunk.now ∷ c.next.new.self)) ≡ map seen (items_of c.args.pairs.now) = ap (λ chunks. map seen ps ++ map seen (items_of chunks)) (sym c.in-Some.ensures.steps) ∙ c.loop-chunk.invariant.filled.2 in (
+        ps ++ c.in_ok-copy.field-0.items,
+        c.in_ok-insert_pairs.ensures.pairs ∙ (ap (λ es. insert_entries g.K.PartialEq.eq es c.in_ok-copy.field-0.items) c.loop-chunk.invariant.filled.1 ∙ sym (insert_entries-append g.K.PartialEq.eq [] ps c.in_ok-copy.field-0.items)),
+        chunk_more seen ps c.in_ok-copy.field-0.items c.in-Some.chunk.now c.next.new.self c.args.pairs.now next c.in_ok-copy.ensures,
+      );
 }
 
 pub returns-clause-map : goal.returns-clause-map
