@@ -81,10 +81,10 @@ impl<K: HashKey, V: Shown + Drop> Combiner for GroupCombiner<K, V> {
     }
 }
 
-impl<K: HashKey, V: Drop> GroupCombiner<K, V> {
+impl<K: HashKey, V: Shown + Drop> GroupCombiner<K, V> {
     /// The 32 lists: list i has, in order, the pairs whose key has trie bucket i.
     pub fn into_buckets(self, alloc: Global) -> Result<Vec<PairList<K, V>>, Memory>
-        ensures lists { IfOk result (λ lists. map items_of lists.items ≡ self.pairs.1) }
+        ensures lists { IfOk result (λ lists. map items_of lists.items ≡ (⟦<GroupCombiner<K, V> as Shown>⟧.shown self).1) }
         ensures count { IfOk result (λ lists. length lists.items ≡ 32) }
     {
         self.pairs.into_buckets(alloc)

@@ -78,7 +78,7 @@ impl<K: HashKey> Combiner for SetCombiner<K> {
 impl<K: HashKey> SetCombiner<K> {
     /// The 32 lists: list i has, in order, the keys of flat bucket i.
     pub fn into_buckets(self, alloc: Global) -> Result<Vec<LinkedList<Vec<K>>>, Memory>
-        ensures lists { IfOk result (λ lists. map items_of lists.items ≡ self.keys.1) }
+        ensures lists { IfOk result (λ lists. map items_of lists.items ≡ (⟦<SetCombiner<K> as Shown>⟧.shown self).1) }
         ensures count { IfOk result (λ lists. length lists.items ≡ 32) }
     {
         self.keys.into_lists(alloc)

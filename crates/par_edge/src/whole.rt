@@ -23,6 +23,11 @@ pub enum ReadStop {
 }
 
 impl fmt::Display for ReadStop {
+    ghost use Rattle.std.specs.Prelude.{Some};
+    ghost use Rattle.par_edge.specs.Stops.{stop_text};
+
+    ghost output = { λ stop. Some (stop_text stop) };
+
     fn fmt<W: fmt::Write>(&self, f: &mut fmt::Formatter<W>) -> fmt::Result {
         match self {
             ReadStop::Failed => write!(f, "read failed"),

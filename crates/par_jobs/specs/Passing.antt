@@ -3,7 +3,7 @@ use Rattle.std.specs.Prelude.{◌≡◌, ℕ, ◌+◌, ◌<◌, ◌≤◌, ◌^�
 use Rattle.par_laws.specs.declared.test.Verdict.{Verdict}
 use Rattle.par_laws.specs.Marks.{Clear, stop}
 use Rattle.par_signal.specs.Seen.{Flags}
-use Rattle.par_task.specs.Marking.{low_flag, marks_of}
+use Rattle.par_task.specs.Marking.{Kind, marks_of}
 use Rattle.par_task.specs.Spans.{IsSpan}
 use Rattle.par_task.specs.Parts.{between}
 use Rattle.par_jobs.specs.declared.low.Ended.{Ended}
@@ -36,12 +36,12 @@ pub record IsLeft {X : Type 0} (source : List X) (at hi : ℕ) (items : List X) 
   pub span : IsSpan source at items
   pub ends : at + length items ≡ hi
 
--- What a low-flag leaf is given: the items of the source from lo on, in a source that is not too long; a test that answers
--- the source's verdicts and can count as many more; and a seat of signals that have the marks of these verdicts.
-pub record IsGiven {X : Type 0} (source : List X) (verdict asked : X → Verdict) (lo : ℕ) (items : List X) (made : ℕ) (signals of : Flags) : Type 0 where
+-- What a leaf is given that may end early: the items of the source from lo on, in a source that is not too long; a test
+-- that answers the source's verdicts and can count as many more; and a seat of signals that have the marks of these verdicts.
+pub record IsGiven {X : Type 0} (kind : Kind) (source : List X) (verdict asked : X → Verdict) (lo : ℕ) (items : List X) (made : ℕ) (signals of : Flags) : Type 0 where
   pub part : IsSpan source lo items
   pub small : length source ≤ 4194304
   pub test : map asked source ≡ map verdict source
-  pub marks : signals.marks ≡ marks_of low_flag (map verdict source)
+  pub marks : signals.marks ≡ marks_of kind (map verdict source)
   pub seat : of ≡ signals
   pub room : made + length items < 2 ^ 64

@@ -113,7 +113,9 @@ fn is_past(signals: &Signals, seat: &mut SignalSeat, lo: u32, at: u32, hi: u32) 
 }
 
 // Passes the items of a leaf whose flag is past its first item: up to the first marked one, which it tells by the low
-// flag, or to where another leaf has lowered the flag.
+// flag, or to where another leaf has lowered the flag. It stands inline, so that a probe and a splitter of the caller's
+// own stay in registers.
+#[inline(always)]
 fn pass_items<S: Splitter, P: Test<S::Item>, B: Builder<S::Item>>(
     alloc: Global,
     marked: &Marked<'_, S, P>,
@@ -124,7 +126,7 @@ fn pass_items<S: Splitter, P: Test<S::Item>, B: Builder<S::Item>>(
     signals: &Signals,
     seat: &mut SignalSeat,
 ) -> Result<Passed<B::Built, S::Item>, Memory>
-    requires given { IsGiven (S.items marked.now.split) (P.verdict marked.now.inner) (P.verdict probe.old.inner) (S.lo input.old) (S.items input.old) probe.old.made signals.now seat.old.of }
+    requires given { IsGiven low_flag (S.items marked.now.split) (P.verdict marked.now.inner) (P.verdict probe.old.inner) (S.lo input.old) (S.items input.old) probe.old.made signals.now seat.old.of }
     requires flag { IsLow signals.now.marks flag × (S.lo input.old < flag) × (flag ≤ seat.old.low) }
     ensures test { probe.new.inner ≡ probe.old.inner }
     ensures made { probe.old.made ≤ probe.new.made }
@@ -164,7 +166,7 @@ pub(crate) fn pass_low<S: Splitter, P: Test<S::Item>, B: Builder<S::Item>>(
     signals: &Signals,
     seat: &mut SignalSeat,
 ) -> Result<Passed<B::Built, S::Item>, Memory>
-    requires { IsGiven (S.items marked.now.split) (P.verdict marked.now.inner) (P.verdict probe.old.inner) (S.lo input.old) (S.items input.old) probe.old.made signals.now seat.old.of }
+    requires { IsGiven low_flag (S.items marked.now.split) (P.verdict marked.now.inner) (P.verdict probe.old.inner) (S.lo input.old) (S.items input.old) probe.old.made signals.now seat.old.of }
     ensures test { probe.new.inner ≡ probe.old.inner }
     ensures made { probe.old.made ≤ probe.new.made }
     ensures seat { IsLater seat.old seat.new }
@@ -178,5 +180,19 @@ pub(crate) fn pass_low<S: Splitter, P: Test<S::Item>, B: Builder<S::Item>>(
         let none = builder.start(alloc)?;
         return Ok(leaf_did(flag, lo, none, Ended::Past));
     }
-    pass_items(alloc, marked, builder, flag, input, probe, signals, seat)
+    let mut asking = probe.take();
+    let mut items = input.dup();
+    let passed = pass_items(
+        alloc,
+        marked,
+        builder,
+        flag,
+        &mut items,
+        &mut asking,
+        signals,
+        seat,
+    );
+    *probe = asking;
+    *input = items;
+    passed
 }

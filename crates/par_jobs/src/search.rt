@@ -1,6 +1,9 @@
 //! A job that ends at any marked item.
-ghost use Rattle.std.specs.Prelude.{◌≡◌, ℕ, ◌≤◌, ◌<◌, ◌^◌, length, map, IfOk};
-ghost use Rattle.par_jobs.specs.Merges.{not_found_by};
+ghost use Rattle.std.specs.Prelude.{◌≡◌, ℕ, ◌+◌, ◌-◌, ◌≤◌, ◌<◌, ◌^◌, length, map, IfOk};
+ghost use Rattle.par_task.specs.Marking.{abort_flag, marks_of};
+ghost use Rattle.par_task.specs.Seats.{IsLater, IsLeafOf};
+ghost use Rattle.par_jobs.specs.Merges.{IsSought, not_found_by};
+ghost use Rattle.par_jobs.specs.Passing.{IsGiven};
 ghost use Rattle.par_jobs.specs.declared.search.Sought.TheVariants.{Found};
 
 use crate::abort::{decided, decider, is_decided};
@@ -45,6 +48,51 @@ fn found(i: u32, flag: u32) -> Done<Sought>
     }
 }
 
+// Looks through the items of a leaf for one that passes, and tells it by the abort flag. It breaks off where another leaf
+// met one. It stands inline, so that a probe of the caller's own stays in registers.
+#[inline(always)]
+fn seek<S: Splitter, P: Test<S::Item>>(
+    marked: &Marked<'_, S, P>,
+    mut input: S,
+    probe: &mut Probe<'_, P>,
+    signals: &Signals,
+    seat: &mut SignalSeat,
+) -> Result<Done<Sought>, Memory>
+    requires { IsGiven abort_flag (S.items marked.now.split) (P.verdict marked.now.inner) (P.verdict probe.old.inner) (S.lo input) (S.items input) probe.old.made signals.now seat.old.of }
+    ensures test { probe.new.inner ≡ probe.old.inner }
+    ensures made { probe.old.made ≤ probe.new.made }
+    ensures seat { IsLater seat.old seat.new }
+    ensures leaf { IfOk result (λ d. IsLeafOf abort_flag (marks_of abort_flag (map (P.verdict marked.now.inner) (S.items marked.now.split))) (S.lo input) (S.lo input + length (S.items input)) seat.old seat.new d.flag (probe.new.made - probe.old.made)) }
+    ensures good { IfOk result (λ d. IsSought (map (P.verdict marked.now.inner) (S.items marked.now.split)) (marks_of abort_flag (map (P.verdict marked.now.inner) (S.items marked.now.split))) (S.lo input) (S.lo input + length (S.items input)) d.part) }
+{
+    if let Some(i) = decided(signals, seat)? {
+        return Ok(found(i, 0));
+    }
+    let flag = marked.count();
+    let (lo, hi) = input.span();
+    let mut at = lo;
+    let mut fault: Option<FaultAt> = None;
+    while let Some(item) = input.next() {
+        let verdict = probe.test(&item);
+        let pass = is_pass(verdict);
+        if pass {
+            signals.abort(seat, at);
+            return Ok(found(at, flag));
+        }
+        fault = note_fault(fault, verdict, at);
+        at += 1;
+        let ended = is_decided(signals, seat, lo, at, hi);
+        if ended {
+            let i = decider(signals, seat)?;
+            return Ok(found(i, flag));
+        }
+    }
+    Ok(Done {
+        part: not_found(fault),
+        flag,
+    })
+}
+
 /// Finds an item that passes. `forall` and `sameElements` have the contrary test.
 #[derive(Drop)]
 pub struct SearchJob<'a, S: Splitter, P: Test<S::Item>> {
@@ -54,8 +102,7 @@ pub struct SearchJob<'a, S: Splitter, P: Test<S::Item>> {
 
 impl<'a, S: Splitter, P: Test<S::Item>> Job for SearchJob<'a, S, P> {
     ghost use Rattle.std.proofs.Common.{sym, ◌∙◌};
-    ghost use Rattle.par_task.specs.Marking.{abort_flag, marks_of};
-    ghost use Rattle.par_jobs.specs.Merges.{IsSought, sought_merge, sought_joins};
+    ghost use Rattle.par_jobs.specs.Merges.{sought_merge, sought_joins};
 
     type Split = S;
 
@@ -76,37 +123,15 @@ impl<'a, S: Splitter, P: Test<S::Item>> Job for SearchJob<'a, S, P> {
     fn leaf(
         &self,
         _alloc: Global,
-        mut input: S,
+        input: S,
         probe: &mut Probe<'_, P>,
         signals: &Signals,
         seat: &mut SignalSeat,
     ) -> Result<Done<Sought>, Memory> {
-        if let Some(i) = decided(signals, seat)? {
-            return Ok(found(i, 0));
-        }
-        let flag = self.marked.count();
-        let (lo, hi) = input.span();
-        let mut at = lo;
-        let mut fault: Option<FaultAt> = None;
-        while let Some(item) = input.next() {
-            let verdict = probe.test(&item);
-            let pass = is_pass(verdict);
-            if pass {
-                signals.abort(seat, at);
-                return Ok(found(at, flag));
-            }
-            fault = note_fault(fault, verdict, at);
-            at += 1;
-            let ended = is_decided(signals, seat, lo, at, hi);
-            if ended {
-                let i = decider(signals, seat)?;
-                return Ok(found(i, flag));
-            }
-        }
-        Ok(Done {
-            part: not_found(fault),
-            flag,
-        })
+        let mut asking = probe.take();
+        let done = seek(&self.marked, input, &mut asking, signals, seat);
+        *probe = asking;
+        done
     }
 
     fn merge(&self, left: Sought, right: Sought) -> Result<Sought, Memory> {

@@ -37,6 +37,21 @@ impl<'p, P> Probe<'p, P> {
         self.made
     }
 
+    /// The probe with its count. What stays counts from 0. So a loop can ask by a probe of its own, which stays in
+    /// registers, and put it back.
+    pub fn take(&mut self) -> Probe<'p, P>
+        ensures taken { result ≡ self.old }
+        ensures inner { self.new.inner ≡ self.old.inner }
+        ensures made { self.new.made ≡ 0 }
+    {
+        let made = self.made;
+        self.made = 0;
+        Probe {
+            inner: self.inner,
+            made,
+        }
+    }
+
     /// The test's verdict on the item. The count rises by one.
     pub fn test<I: Shown>(&mut self, item: &I) -> Verdict
     where

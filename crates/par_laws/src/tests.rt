@@ -105,6 +105,9 @@ fn tests_and_probes(rt: HostRuntime) {
     assert_eq!(rt; probe.test(&5), Verdict::Pass);
     assert_eq!(rt; probe.test(&3), Verdict::Fault(7));
     assert_eq!(rt; probe.made(), 2);
+    let taken = probe.take();
+    assert_eq!(rt; (taken.made(), probe.made()), (2, 0));
+    assert_eq!(rt; probe.test(&3), Verdict::Fault(7));
 }
 
 #[test]
@@ -193,7 +196,7 @@ fn folds_of_lists(rt: HostRuntime) -> Result<(), Fail> {
     for at in 0..4 {
         let line = folded_in_parts(alloc, &joined, &texts, at)?.ok_or("none")?;
         assert_eq!(rt; line.as_str(), "a, , b");
-        let list = folded_in_parts(alloc, &Concat::new(), &texts, at)?;
+        let list = folded_in_parts(alloc, &Concat::default(), &texts, at)?;
         assert_eq!(rt; list.as_slice(), texts.as_slice());
     }
     let none: [Words; 0] = [];

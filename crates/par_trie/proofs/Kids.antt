@@ -1,6 +1,6 @@
 -- Lemmas on the kids of a branch.
-use Rattle.std.proofs.Common.{◌≡◌, ℕ, zero, suc, ◌+◌, ◌-◌, ◌/◌, ◌%◌, ◌<◌, ◌≤◌, ◌≢◌, Bool, true, false, cond, List, [], ◌∷◌, ◌++◌, length, get_or, set, refl, ap, sym, ◌∙◌, append_assoc, append-nil, arith, subst, ◌⊎◌, ⊎_elim, inl, inr}
-use Rattle.std.specs.Prelude.{Option, Some, None, ◌==◌, slice_get}
+use Rattle.std.proofs.Common.{◌≡◌, ℕ, zero, suc, ◌+◌, ◌/◌, ◌%◌, ◌<◌, ◌≤◌, ◌≢◌, List, [], ◌∷◌, ◌++◌, length, get_or, set, refl, ap, sym, ◌∙◌, append-nil, arith, ⊎_elim}
+use Rattle.std.specs.Prelude.{Some, slice_get}
 use Rattle.par_index.specs.declared.index.Leaf.{Leaf}
 use Rattle.par_trie.specs.declared.kid.Kid.{Kid}
 use Rattle.par_trie.specs.declared.kid.Kid.TheVariants.{One}

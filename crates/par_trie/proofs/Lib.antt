@@ -1,3 +1,5 @@
 pub mod Digits
+pub mod Few
 pub mod Kids
+pub mod Slots
 pub mod United

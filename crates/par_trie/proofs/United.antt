@@ -1,6 +1,6 @@
 -- The two keys of one hash that a test puts into bucket 0, with 31 empty maps after them.
-use Rattle.std.proofs.Common.{◌≡◌, ℕ, zero, suc, ◌+◌, ◌≤◌, List, [], ◌∷◌, ◌++◌, length, replicate, refl, ap, sym, subst, ◌∙◌, arith}
-use Rattle.std.specs.Prelude.{Option, Some, None, slice_get, ℤ, pos}
+use Rattle.std.proofs.Common.{◌≡◌, ℕ, zero, suc, ◌+◌, List, [], ◌∷◌, ◌++◌, length, replicate, refl, ap, subst, ◌∙◌, arith}
+use Rattle.std.specs.Prelude.{Some, None, slice_get, ℤ, pos}
 use Rattle.par_laws.specs.Hash.{int_hash, mixed}
 use Rattle.par_index.specs.Entries.{joined, AreBuckets}
 use Rattle.par_trie.specs.Buckets.{bucket_of_hash}

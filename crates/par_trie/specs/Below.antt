@@ -1,5 +1,5 @@
 -- The places below a branch, digit by digit.
-use Rattle.std.specs.Prelude.{ℕ, zero, suc, ◌/◌, ◌%◌, List, [], ◌∷◌, get_or, slice_get, Option, Some, None}
+use Rattle.std.specs.Prelude.{ℕ, zero, suc, ◌/◌, ◌%◌, List, [], get_or, slice_get, Option, Some, None}
 use Rattle.par_index.specs.Places.{places_of}
 use Rattle.par_trie.specs.declared.kid.Kid.{Kid}
 use Rattle.par_trie.specs.declared.kid.Kid.TheVariants.{One, Below}

@@ -1,5 +1,5 @@
 -- The buckets of a trie: the digits of its level 0.
-use Rattle.std.specs.Prelude.{◌≡◌, ℕ, zero, suc, ◌%◌, List, [], ◌∷◌, ◌++◌}
+use Rattle.std.specs.Prelude.{ℕ, ◌%◌}
 use Rattle.par_laws.specs.Hash.{mixed}
 
 -- the bucket of a hash: the low five bits of the mixed hash

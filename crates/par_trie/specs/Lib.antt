@@ -1,3 +1,4 @@
 pub mod Places
 pub mod Below
+pub mod Slots
 pub mod Buckets

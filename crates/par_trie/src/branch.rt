@@ -21,15 +21,11 @@ impl<N: Node> Node for Branch<N> {
 
     ghost places = { λ branch q. places_in N.places branch.index branch.kids.items q };
 
-    fn empty(alloc: Global) -> Branch<N> {
-        Branch {
+    fn pair(alloc: Global, first: Leaf, second: Leaf) -> Result<Branch<N>, Memory> {
+        let mut branch = Branch {
             index: [0; 32],
             kids: Vec::new(alloc),
-        }
-    }
-
-    fn pair(alloc: Global, first: Leaf, second: Leaf) -> Result<Branch<N>, Memory> {
-        let mut branch = Branch::empty(alloc);
+        };
         branch.push(alloc, first)?;
         branch.push(alloc, second)?;
         Ok(branch)

@@ -1,5 +1,6 @@
 ghost use Rattle.std.specs.Prelude.{◌≡◌, ℕ, List};
 
+use crate::leaves::find_among;
 use crate::node::Node;
 use par_index::{Leaf, Wanted};
 use par_laws::Memory;
@@ -16,12 +17,6 @@ impl Node for Chain {
 
     ghost places = { λ chain q. places_among chain.leaves.items q };
 
-    fn empty(alloc: Global) -> Chain {
-        Chain {
-            leaves: Vec::new(alloc),
-        }
-    }
-
     fn pair(alloc: Global, first: Leaf, second: Leaf) -> Result<Chain, Memory> {
         let mut leaves = Vec::with_capacity(alloc, 2)?;
         leaves.push_reserved(first);
@@ -30,12 +25,7 @@ impl Node for Chain {
     }
 
     fn find<W: Wanted>(&self, rest: u32, wanted: &W) -> Option<u32> {
-        for leaf in &self.leaves {
-            if leaf.rest == rest && wanted.is_at(leaf.at) {
-                return Some(leaf.at);
-            }
-        }
-        None
+        find_among(&self.leaves, rest, wanted)
     }
 
     fn push(&mut self, _alloc: Global, leaf: Leaf) -> Result<(), Memory> {

@@ -1,5 +1,5 @@
-ghost use Rattle.std.specs.Prelude.{◌≡◌, ℕ, ◌++◌, OnOk, OnErr};
-ghost use Rattle.par_index.specs.Places.{places_of, first_such};
+ghost use Rattle.std.specs.Prelude.{◌≡◌, ℕ, ◌++◌, IfSome, IfNone, OnOk, OnErr, true, false};
+ghost use Rattle.par_index.specs.Places.{is_among, places_of};
 ghost use Rattle.par_trie.specs.Below.{places_at};
 
 use crate::node::Node;
@@ -15,7 +15,8 @@ pub enum Kid<N> {
 }
 
 pub fn find_in<N: Node, W: Wanted>(kid: &Kid<N>, rest: u32, wanted: &W) -> Option<u32>
-    ensures { result ≡ first_such (W.is_wanted wanted.now) (places_at N.places kid.now rest) }
+    ensures found { IfSome result (λ at. W.is_wanted wanted.now at ≡ true) }
+    ensures absent { IfNone result ((at : ℕ) → is_among at (places_at N.places kid.now rest) ≡ true → W.is_wanted wanted.now at ≡ false) }
 {
     match kid {
         Kid::One(leaf) => {

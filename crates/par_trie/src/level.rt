@@ -3,14 +3,16 @@ ghost use Rattle.std.specs.Prelude.{◌≡◌, ℕ};
 use crate::branch::Branch;
 use crate::chain::Chain;
 use crate::node::Node;
+use crate::wide::Wide;
 use par_index::{Index, Leaf, Wanted};
 use par_laws::Memory;
 use std::alloc::Global;
 
-type Deep = Branch<Branch<Branch<Branch<Chain>>>>;
+/// Levels 4 to 6, which few keys come to, and a collision list below them.
+type Deep = Branch<Branch<Branch<Chain>>>;
 
-/// Seven levels, numbered 0 to 6, and a collision list below them.
-pub type Levels = Branch<Branch<Branch<Deep>>>;
+/// Levels 0 to 3, which hold the leaves of a million keys, over the deeper ones.
+pub type Levels = Wide<Wide<Wide<Wide<Box<Deep>>>>>;
 
 /// The levels of a trie, and how many leaves they hold.
 #[derive(Drop)]
@@ -20,14 +22,14 @@ pub struct Root<N> {
     count: u32,
 }
 
-impl<N: Node> Root<N> {
+impl Root<Levels> {
     /// Without leaves. Takes no memory.
-    pub fn new(alloc: Global) -> Root<N>
-        ensures { ⟦<Root<N> as Index>⟧.count result ≡ 0 }
+    pub fn new(alloc: Global) -> Root<Levels>
+        ensures { ⟦<Root<Levels> as Index>⟧.count result ≡ 0 }
     {
         Root {
             alloc,
-            top: N::empty(alloc),
+            top: Wide::empty(alloc),
             count: 0,
         }
     }

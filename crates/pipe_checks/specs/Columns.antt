@@ -3,7 +3,7 @@ use Rattle.std.specs.Prelude.{◌&&◌, not, Bool, true, false, List, [], ◌∷
 use Rattle.par_rows.specs.declared.schema.Column.{Column}
 use Rattle.par_rows.specs.declared.schema.ColumnKind.{ColumnKind}
 use Rattle.par_rows.specs.declared.schema.ColumnKind.TheVariants as sorts
-use Rattle.pipe_steps.specs.Said.{Text, Field, How, Chained, Total, Said, Begins, Goes}
+use Rattle.pipe_steps.specs.Said.{Text, Field, How, Chained, Total, Origin, Middle, Said, Begins, Goes}
 use Rattle.pipe_steps.specs.Said as x
 use Rattle.pipe_checks.specs.declared.kinds.ValueKind.{ValueKind}
 use Rattle.pipe_checks.specs.declared.kinds.ValueKind.TheVariants as k
@@ -29,16 +29,25 @@ how_kind _ = sorts.Int
 abbrev pub total_column : Total → Column
 total_column t = column t.1 (how_kind t.0)
 
--- the columns after a line, one line for each that changes them
+-- the columns of a source
+abbrev pub source_columns : Origin → List Column
+source_columns (x.Csv cs) = cs
+source_columns (x.Range a b c) = column (codes "x") sorts.Int ∷ []
+
+-- the columns after a step, one line for each step that changes them
+abbrev pub step_columns : List Column → Middle → List Column
+step_columns cs (x.Map fs) = map (made cs) fs
+step_columns cs (x.Collect fs e) = map (made cs) fs
+step_columns cs (x.ZipWithIndex n) = cs ++ column n sorts.Int ∷ []
+step_columns cs (x.ZipRange a b c n) = cs ++ column n sorts.Int ∷ []
+step_columns cs (x.Scan how e n) = column n sorts.Int ∷ []
+step_columns cs (x.GroupBy ks ts) = map (made cs) ks ++ map total_column ts
+step_columns cs _ = cs
+
+-- the columns after a line
 abbrev pub columns_after : List Column → Said → List Column
-columns_after cs (Begins (x.Csv ds)) = ds
-columns_after cs (Begins (x.Range a b c)) = column (codes "x") sorts.Int ∷ []
-columns_after cs (Goes (x.Map fs)) = map (made cs) fs
-columns_after cs (Goes (x.Collect fs e)) = map (made cs) fs
-columns_after cs (Goes (x.ZipWithIndex n)) = cs ++ column n sorts.Int ∷ []
-columns_after cs (Goes (x.ZipRange a b c n)) = cs ++ column n sorts.Int ∷ []
-columns_after cs (Goes (x.Scan how e n)) = column n sorts.Int ∷ []
-columns_after cs (Goes (x.GroupBy ks ts)) = map (made cs) ks ++ map total_column ts
+columns_after cs (Begins o) = source_columns o
+columns_after cs (Goes m) = step_columns cs m
 columns_after cs _ = cs
 
 -- no two columns have one name

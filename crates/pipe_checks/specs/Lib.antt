@@ -2,3 +2,4 @@ pub mod Uses
 pub mod Kinds
 pub mod Columns
 pub mod Places
+pub mod Laws

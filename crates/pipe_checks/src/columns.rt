@@ -2,8 +2,8 @@
 
 ghost use Rattle.std.specs.Prelude.{◌≡◌, ◌++◌, ◌∷◌, [], map, codes, IfOk};
 ghost use Rattle.par_rows.specs.declared.schema.ColumnKind.TheVariants.{Int as IntKind};
-ghost use Rattle.pipe_steps.specs.Said.{agg_view, how_view, named_view, view};
-ghost use Rattle.pipe_checks.specs.Columns.{are_distinct, column, column_kind, columns_after, how_kind, made, total_column};
+ghost use Rattle.pipe_steps.specs.Said.{agg_view, how_view, middle_view, named_view, source_view, view};
+ghost use Rattle.pipe_checks.specs.Columns.{are_distinct, column, column_kind, columns_after, how_kind, made, source_columns, step_columns, total_column};
 
 use crate::kinds::{ValueKind, has, kind_of};
 use par_laws::{Keep, Memory, Words};
@@ -83,36 +83,51 @@ fn range_name(alloc: Global) -> Result<Words, Memory>
     Words::from_text(alloc, "x")
 }
 
+/// The columns of a source. Takes memory for them.
+pub fn source_columns(alloc: Global, source: &Source) -> Result<Vec<Column>, Memory>
+    ensures { IfOk result (λ v. v.items ≡ source_columns (source_view source.now)) }
+{
+    match source {
+        Source::Csv(schema) => copies(alloc, &schema.columns),
+        Source::Range { a: _, b: _, c: _ } => {
+            and_number(alloc, Vec::new(alloc), &range_name(alloc)?)
+        }
+    }
+}
+
+/// The columns after a step. Takes memory for them.
+pub fn step_columns(alloc: Global, columns: &[Column], step: &Step) -> Result<Vec<Column>, Memory>
+    ensures { IfOk result (λ v. v.items ≡ step_columns columns.now (middle_view step.now)) }
+{
+    match step {
+        Step::Map(fields) => made_columns(alloc, columns, fields),
+        Step::Collect(fields, _) => made_columns(alloc, columns, fields),
+        Step::ZipWithIndex(name) => and_number(alloc, copies(alloc, columns)?, name),
+        Step::ZipRange {
+            a: _,
+            b: _,
+            c: _,
+            name,
+        } => and_number(alloc, copies(alloc, columns)?, name),
+        Step::Scan {
+            how: _,
+            of: _,
+            name,
+        } => and_number(alloc, Vec::new(alloc), name),
+        Step::GroupBy { keys, aggs } => {
+            total_columns(alloc, made_columns(alloc, columns, keys)?, aggs)
+        }
+        _ => copies(alloc, columns),
+    }
+}
+
 /// The columns after a line. Takes memory for them.
 pub fn columns_after(alloc: Global, columns: &[Column], line: &Line) -> Result<Vec<Column>, Memory>
     ensures { IfOk result (λ v. v.items ≡ columns_after columns.now (view line.now)) }
 {
     match line {
-        Line::Source(Source::Csv(schema)) => copies(alloc, &schema.columns),
-        Line::Source(Source::Range { a: _, b: _, c: _ }) => {
-            and_number(alloc, Vec::new(alloc), &range_name(alloc)?)
-        }
-        Line::Step(Step::Map(fields)) => made_columns(alloc, columns, fields),
-        Line::Step(Step::Collect(fields, _)) => made_columns(alloc, columns, fields),
-        Line::Step(Step::ZipWithIndex(name)) => and_number(alloc, copies(alloc, columns)?, name),
-        Line::Step(
-            Step::ZipRange {
-                a: _,
-                b: _,
-                c: _,
-                name,
-            },
-        ) => and_number(alloc, copies(alloc, columns)?, name),
-        Line::Step(
-            Step::Scan {
-                how: _,
-                of: _,
-                name,
-            },
-        ) => { and_number(alloc, Vec::new(alloc), name) }
-        Line::Step(Step::GroupBy { keys, aggs }) => {
-            total_columns(alloc, made_columns(alloc, columns, keys)?, aggs)
-        }
+        Line::Source(source) => source_columns(alloc, source),
+        Line::Step(step) => step_columns(alloc, columns, step),
         _ => copies(alloc, columns),
     }
 }

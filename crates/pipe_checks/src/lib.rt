@@ -8,13 +8,15 @@
 mod columns;
 mod fault;
 mod kinds;
+mod laws;
 mod place;
 mod standing;
 mod uses;
 
-pub use columns::columns_after;
+pub use columns::{columns_after, source_columns, step_columns};
 pub use fault::{Fault, LineStop};
 pub use kinds::{ValueKind, kind_of};
+pub use laws::place_laws;
 pub use place::judge_line;
 pub use standing::Place;
 pub use uses::Want;

@@ -13,6 +13,8 @@ use Rattle.pipe_checks.specs.declared.fault.Fault.{Fault}
 use Rattle.pipe_checks.specs.declared.fault.LineStop.{LineStop}
 use Rattle.pipe_checks.specs.declared.fault.LineStop.TheVariants as lines_stop
 use Rattle.pipe_checks.specs.Places.{Spot, Accepts, Refuses, next, rank, start}
+use Rattle.pipe_program.specs.Plans.{Plan, AreOf}
+use Rattle.pipe_program.specs.Parts.{Parts, with_line}
 
 -- a line that is neither blank nor a comment says this in its place
 abbrev pub Says : Spot → List ℕ → Said → Type 0
@@ -44,12 +46,20 @@ RefusedFrom p n (line ∷ rest) at kind =
     ⊎ ((ReadsAs line [] × RefusedFrom p (suc n) rest at kind) ⊎ ((y : Said) × Says p line y × RefusedFrom (next p y) (suc n) rest at kind))
 
 -- the bytes say these things, line by line
-abbrev pub Reads : List ℕ → List Said → Type 0
-Reads text ys = ReadsFrom start (lines text) ys
+abbrev pub AreSaid : List ℕ → List Said → Type 0
+AreSaid text ys = ReadsFrom start (lines text) ys
+
+-- the bytes read as this plan
+abbrev pub Reads : List ℕ → Plan → Type 0
+Reads text p = (ys : List Said) × AreSaid text ys × AreOf p ys
 
 -- the bytes are refused on this line for this kind
 abbrev pub IsRefusedText : List ℕ → ℕ → ℕ → Type 0
 IsRefusedText text at kind = RefusedFrom start 1 (lines text) at kind
+
+-- some text reads as this plan
+abbrev pub IsReadable : Plan → Type 0
+IsReadable p = (text : List ℕ) × Reads text p
 
 -- why a text wasn't read
 abbrev pub Stops : List ℕ → ParseStop → Type 0
@@ -72,8 +82,18 @@ abbrev pub late_as : ℕ → LineStop → ParseStop
 late_as at (lines_stop.Fault k) = stops.Refused (record { line = at; kind = rank k })
 late_as at lines_stop.Memory = stops.Memory
 
--- a line is taken: it is blank or a comment and nothing changes, or what it says is put behind what was said before
-abbrev pub Takes : Spot → List ℕ → List Said → Spot → List Said → Type 0
+-- a line is taken: it is blank or a comment and nothing changes, or what it says is put in
+abbrev pub Takes : Spot → List ℕ → Parts → Spot → Parts → Type 0
 Takes p line before q after =
     (ReadsAs line [] × (q ≡ p) × (after ≡ before))
-    ⊎ ((y : Said) × Says p line y × (q ≡ next p y) × (after ≡ before ++ y ∷ []))
+    ⊎ ((y : Said) × Says p line y × (q ≡ next p y) × (after ≡ with_line before y))
+
+-- the text reads as a plan or is refused
+abbrev pub IsSettled : List ℕ → Type 0
+IsSettled text = ((p : Plan) × Reads text p) ⊎ ((at : ℕ) × (kind : ℕ) × IsRefusedText text at kind)
+
+-- the text reads as one plan at most, has one refusal at most, and not both
+pub record IsUnique (text : List ℕ) : Type 0 where
+  pub reading : (p q : Plan) → Reads text p → Reads text q → p ≡ q
+  pub refusal : (at kind line why : ℕ) → IsRefusedText text at kind → IsRefusedText text line why → (at ≡ line) × (kind ≡ why)
+  pub apart : (p : Plan) (at kind : ℕ) → Reads text p → ¬ (IsRefusedText text at kind)

@@ -1,14 +1,21 @@
 //! A pipeline text, read line by line.
 //!
-//! `read_lines` answers what the lines of a text say, or its one refusal: the least line that has one, and there the
-//! least kind.
+//! `parse` answers the pipeline that a text reads as, or its one refusal: the least line that has one, and there the
+//! least kind. Each text has one of the two, and just one (`text_laws`).
 #![tactic(auto)]
 
+mod draft;
+mod laws;
+mod pipeline;
 mod reading;
 mod refusal;
+mod schema;
 
-pub use reading::read_lines;
+pub use laws::{spelling_laws, text_laws};
+pub use pipeline::Pipeline;
+pub use reading::parse;
 pub use refusal::{ParseStop, Refusal};
+pub use schema::schema_after;
 
 #[cfg(test)]
 mod tests;

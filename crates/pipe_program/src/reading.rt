@@ -1,15 +1,19 @@
-//! From the bytes of a text to what its lines say.
+//! From the bytes of a text to its pipeline.
 
-ghost use Rattle.std.specs.Prelude.{◌≡◌, ◌<◌, ◌++◌, ◌∷◌, [], map, length, IfOk, IfErr, MatchOption, OnOk};
+ghost use Rattle.std.specs.Prelude.{◌≡◌, ◌<◌, [], length, IfOk, IfErr, MatchOption};
 ghost use Rattle.std.specs.Str.Lines.{lines};
 ghost use Rattle.pipe_text.specs.Line.{AreUtf8, ReadsAs};
 ghost use Rattle.pipe_text.specs.Token.{views};
 ghost use Rattle.pipe_tokens.specs.Meaning.{all_meant};
 ghost use Rattle.pipe_steps.specs.Said.{view};
 ghost use Rattle.pipe_checks.specs.Places.{Accepts, IsRefused, next, rank, spot};
-ghost use Rattle.pipe_program.specs.declared.refusal.ParseStop.TheVariants.{Refused, Memory};
+ghost use Rattle.pipe_program.specs.declared.refusal.ParseStop.TheVariants.{Refused};
+ghost use Rattle.pipe_program.specs.Plans.{plan};
+ghost use Rattle.pipe_program.specs.Parts.{parts};
 ghost use Rattle.pipe_program.specs.Reading.{Reads, Says, Stops, StopsLine, Takes, early_as, late_as};
 
+use crate::draft::Draft;
+use crate::pipeline::Pipeline;
 use crate::refusal::{ParseStop, Refusal};
 use pipe_checks::{Fault, LineStop, Place, judge_line};
 use pipe_steps::Line;
@@ -123,56 +127,45 @@ fn read_one(
     }
 }
 
-fn keep(all: &mut Vec<Line>, line: Line) -> Result<(), ParseStop>
-    ensures kept { OnOk result (all.new.items ≡ all.old.items ++ line ∷ []) }
-    ensures memory { IfErr result (λ e. e ≡ Memory) }
-{
-    if all.push(line).is_err() {
-        return Err(ParseStop::Memory);
-    }
-    Ok(())
-}
-
-// Takes a line with this number: what it says is kept, and the place after it is answered.
+// Takes a line with this number: what it says is put into the draft, and the place after it is answered.
 fn take_line(
     alloc: Global,
     place: Place,
-    all: &mut Vec<Line>,
+    draft: &mut Draft,
     at: u32,
     line: &[u8],
 ) -> Result<Place, ParseStop>
-    ensures took { IfOk result (λ q. Takes (spot place) line.now (map view all.old.items) (spot q) (map view all.new.items)) }
+    ensures took { IfOk result (λ q. Takes (spot place) line.now (parts draft.old) (spot q) (parts draft.new)) }
     ensures stopped { IfErr result (λ e. StopsLine (spot place) line.now at e) }
 {
     match read_one(alloc, &place, at, line) {
         Ok(None) => Ok(place),
         Ok(Some((said, next))) => {
-            keep(all, said)?;
+            draft.add(said)?;
             Ok(next)
         }
         Err(stop) => Err(stop),
     }
 }
 
-/// What the lines of a text say, in order, or the text's refusal: the least line that has one, and there its least
-/// kind. A text ends with a last step. Linear in the text for each column.
-pub fn read_lines(alloc: Global, text: &[u8]) -> Result<Vec<Line>, ParseStop>
+/// The pipeline that a text reads as, or the text's refusal: the least line that has one, and there its least kind.
+/// A text is refused behind its last line where no last step was there. Linear in the text for each column.
+pub fn parse(alloc: Global, text: &[u8]) -> Result<Pipeline, ParseStop>
     requires { length (lines text.now) < 4294967295 }
-    ensures read { IfOk result (λ v. Reads text.now (map view v.items)) }
+    ensures read { IfOk result (λ p. Reads text.now (plan p)) }
     ensures stopped { IfErr result (λ e. Stops text.now e) }
 {
     let mut place = Place::start(alloc);
-    let mut all = Vec::new(alloc);
+    let mut draft = Draft::new(alloc);
     let mut at = 1u32;
     let mut rest = text;
     while let Some((line, behind)) = first_line(rest) {
-        place = take_line(alloc, place, &mut all, at, line)?;
+        place = take_line(alloc, place, &mut draft, at, line)?;
         at += 1;
         rest = behind;
     }
-    if place.has_ended() {
-        Ok(all)
-    } else {
-        Err(refused(at, 13))
+    match draft.finish() {
+        Some(pipeline) => Ok(pipeline),
+        None => Err(refused(at, 13)),
     }
 }

@@ -1,4 +1,4 @@
-use crate::{ParseStop, read_lines};
+use crate::{ParseStop, parse};
 use std::alloc::{AllocError, Global};
 
 // 100 times the line, and the kind of its refusal; 0 where the text reads, and 50 for want of memory.
@@ -6,7 +6,7 @@ fn refusal(alloc: Global, text: &[u8]) -> u32 {
     if text.len() >= 65536 {
         return 51;
     }
-    match read_lines(alloc, text) {
+    match parse(alloc, text) {
         Ok(_) => 0,
         Err(ParseStop::Refused(refusal)) => {
             refusal

@@ -9,7 +9,7 @@ use pipe_text::Symbol;
 
 /// A word, symbol or number that a form has between its parts.
 #[derive(Clone, Copy, Debug)]
-pub(crate) enum Joint {
+pub enum Joint {
     As,
     When,
     From,

@@ -10,12 +10,15 @@
 mod entry;
 mod joint;
 mod last;
+mod laws;
 mod line;
 mod reader;
 mod source;
 mod step;
 
+pub use joint::Joint;
 pub use last::Last;
+pub use laws::saying_laws;
 pub use line::Line;
 pub use reader::line_of;
 pub use source::{Kind, Source};

@@ -5,3 +5,4 @@ mod Lexing
 mod Cuts
 mod Utf8
 mod Settled
+mod Spaces

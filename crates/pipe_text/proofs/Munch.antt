@@ -39,7 +39,7 @@ pub record Fronts (t : Lex) (text : List ℕ) : Type 0 where
 clash : {Z : Type 0} (c : ℕ) (k j : Kind) → kind c ≡ k → kind c ≡ j → (k ≡ j → ⊥) → Z
 clash c k j a b n = absurd (n (sym a ∙ b))
 
-word_longest : (c : ℕ) (r rest : List ℕ) → is_letter c ≡ true → r ≡ run is_word r ++ rest → IsLongest (Word (c ∷ run is_word r)) rest
+pub word_longest : (c : ℕ) (r rest : List ℕ) → is_letter c ≡ true → r ≡ run is_word r ++ rest → IsLongest (Word (c ∷ run is_word r)) rest
 word_longest c r rest l s (Word []) more i e = absurd i
 word_longest c r rest l s (Word (d ∷ w)) more i e =
     let h = cons_inj c d (run is_word r ++ rest) (w ++ more) e in
@@ -50,7 +50,7 @@ word_longest c r rest l s (Digits d) more i e = let kc : kind c ≡ Letter = rw 
 word_longest c r rest l s (Text b) more i e = let kc : kind c ≡ Letter = rw l refl in clash c Letter Mark kc (head_kind (Text b) c _ more i e) (λ x. cc x)
 word_longest c r rest l s (Sign k) more i e = let kc : kind c ≡ Letter = rw l refl in clash c Letter Other kc (head_kind (Sign k) c _ more i e) (λ x. cc x)
 
-digits_longest : (c : ℕ) (r rest : List ℕ) → is_digit c ≡ true → r ≡ run is_digit r ++ rest → IsLongest (Digits (c ∷ run is_digit r)) rest
+pub digits_longest : (c : ℕ) (r rest : List ℕ) → is_digit c ≡ true → r ≡ run is_digit r ++ rest → IsLongest (Digits (c ∷ run is_digit r)) rest
 digits_longest c r rest l s (Digits []) more i e = absurd i
 digits_longest c r rest l s (Digits (d ∷ w)) more i e =
     let h = cons_inj c d (run is_digit r ++ rest) (w ++ more) e in
@@ -61,7 +61,7 @@ digits_longest c r rest l s (Quoted q) more i e = let kc : kind c ≡ Digit = rw
 digits_longest c r rest l s (Text b) more i e = let kc : kind c ≡ Digit = rw (digit_no_letter c l, l) refl in clash c Digit Mark kc (head_kind (Text b) c _ more i e) (λ x. cc x)
 digits_longest c r rest l s (Sign k) more i e = let kc : kind c ≡ Digit = rw (digit_no_letter c l, l) refl in clash c Digit Other kc (head_kind (Sign k) c _ more i e) (λ x. cc x)
 
-some_name : (q : List ℕ) → IsLex (Quoted q) → list_all is_name q ≡ true
+pub some_name : (q : List ℕ) → IsLex (Quoted q) → list_all is_name q ≡ true
 some_name [] h = absurd h
 some_name (d ∷ q) h = h
 
@@ -73,7 +73,7 @@ name_same q p x y gq gp e = sym (run_until is_name q 96 x gq refl).0 ∙ ap (run
 body_same : (b d x y : List ℕ) → is_body false b ≡ true → is_body false d ≡ true → b ++ 34 ∷ x ≡ d ++ 34 ∷ y → b ≡ d
 body_same b d x y gb gd e = some_inj b d (sym (body_back false b x gb) ∙ ap (body_at false) e ∙ body_back false d y gd)
 
-quoted_longest : (q rest : List ℕ) → list_all is_name q ≡ true → IsLongest (Quoted q) rest
+pub quoted_longest : (q rest : List ℕ) → list_all is_name q ≡ true → IsLongest (Quoted q) rest
 quoted_longest q rest g (Quoted p) more i e =
     let h = cons_inj 96 96 _ _ e in
     let flat : q ++ 96 ∷ rest ≡ p ++ 96 ∷ more = sym (append_assoc q (96 ∷ []) rest) ∙ h.1 ∙ append_assoc p (96 ∷ []) more in
@@ -84,7 +84,7 @@ quoted_longest q rest g (Digits d) more i e = clash 96 Back Digit refl (head_kin
 quoted_longest q rest g (Text b) more i e = clash 96 Back Mark refl (head_kind (Text b) 96 _ more i e) (λ x. cc x)
 quoted_longest q rest g (Sign k) more i e = clash 96 Back Other refl (head_kind (Sign k) 96 _ more i e) (λ x. cc x)
 
-text_longest : (b rest : List ℕ) → is_body false b ≡ true → IsLongest (Text b) rest
+pub text_longest : (b rest : List ℕ) → is_body false b ≡ true → IsLongest (Text b) rest
 text_longest b rest g (Text d) more i e =
     let h = cons_inj 34 34 _ _ e in
     let flat : b ++ 34 ∷ rest ≡ d ++ 34 ∷ more = sym (append_assoc b (34 ∷ []) rest) ∙ h.1 ∙ append_assoc d (34 ∷ []) more in
@@ -95,7 +95,7 @@ text_longest b rest g (Digits d) more i e = clash 34 Mark Digit refl (head_kind 
 text_longest b rest g (Quoted q) more i e = clash 34 Mark Back refl (head_kind (Quoted q) 34 _ more i e) (λ x. cc x)
 text_longest b rest g (Sign k) more i e = clash 34 Mark Other refl (head_kind (Sign k) 34 _ more i e) (λ x. cc x)
 
-symbol_longest : (c : ℕ) (r rest : List ℕ) (k : Symbol) → kind c ≡ Other → first_symbol symbols c (slice_get r 0) ≡ Some k → c ∷ r ≡ symbol_text k ++ rest → IsLongest (Sign k) rest
+pub symbol_longest : (c : ℕ) (r rest : List ℕ) (k : Symbol) → kind c ≡ Other → first_symbol symbols c (slice_get r 0) ≡ Some k → c ∷ r ≡ symbol_text k ++ rest → IsLongest (Sign k) rest
 symbol_longest c r rest k o f s (Word d) more i e = clash c Other Letter o (head_kind (Word d) c r more i (s ∙ e)) (λ x. cc x)
 symbol_longest c r rest k o f s (Quoted d) more i e = clash c Other Back o (head_kind (Quoted d) c r more i (s ∙ e)) (λ x. cc x)
 symbol_longest c r rest k o f s (Digits d) more i e = clash c Other Digit o (head_kind (Digits d) c r more i (s ∙ e)) (λ x. cc x)

@@ -1,16 +1,16 @@
 -- The bytes of each token of a UTF-8 line are UTF-8.
-use Rattle.std.proofs.Common.{◌≡◌, ◌≤◌, ◌<◌, ◌∷◌, ◌++◌, refl, ap, ℕ, List, [], length, take, drop, arith, append_assoc, Bool, true, get_or}
+use Rattle.std.proofs.Common.{◌≡◌, ◌≤◌, ◌<◌, ◌∷◌, ◌++◌, refl, ap, ℕ, List, [], length, take, drop, arith, append_assoc, Bool, true, false, get_or}
 use Rattle.std.specs.List.{list_all}
 use Rattle.std.specs.Str.{IsAscii, IsUtf8, IsCharBoundary}
 use Rattle.std.proofs.lemmas.Bool.{ltb-true}
-use Rattle.std.specs.Prelude.{nat_lt, IfOk, Result, Ok, Err, Vec}
+use Rattle.std.specs.Prelude.{nat_lt, IfOk, MatchBool, Result, Ok, Err, Vec}
 use Rattle.std.specs.Global.{Global}
 use Rattle.pipe_text.specs.declared.lexeme.Lexeme.{Lexeme}
 use Rattle.pipe_text.specs.declared.line.LineFault.{LineFault}
 use Rattle.std.proofs.lemmas.Str.{IsUtf8-drop, IsUtf8-nil, IsUtf8-take, IsUtf8-from_ascii, IsCharBoundary-after_ascii}
 use Rattle.std.proofs.lemmas.Str.Ascii.{IsAscii-cons, IsAscii-nil}
 use Rattle.pipe_text.specs.Token.{Lex, Word, Quoted, Digits, Text, Sign, IsLex, Lexes, is_blank, is_digit, is_letter, is_word, spelled, symbol_text, views}
-use Rattle.pipe_text.specs.Line.{AreUtf8, inside}
+use Rattle.pipe_text.specs.Line.{AreUtf8, ReadsAs, inside, is_quiet}
 use Rattle.pipe_text.proofs.Bytes.{and_true}
 use Rattle.pipe_text.proofs.Symbols.{symbol_ascii}
 
@@ -93,3 +93,10 @@ tokens_utf8 (t ∷ ts) line u h =
 pub read_utf8 : (line : List ℕ) (r : Result (Vec Lexeme Global) LineFault) → IsUtf8 line → IfOk r (λ v. Lexes line (views v.items) × (length (views v.items) ≤ 512)) → IfOk r (λ v. AreUtf8 (views v.items))
 read_utf8 line (Ok v) u h = tokens_utf8 (views v.items) line u h.0
 read_utf8 line (Err e) u h = h
+
+pub line_utf8 : (line : List ℕ) (ts : List Lex) → ReadsAs line ts → AreUtf8 ts
+line_utf8 line ts r = go (is_quiet line) r.tokens
+  where
+    go : (q : Bool) → MatchBool q (ts ≡ []) (Lexes line ts) → AreUtf8 ts
+    go true none = rw none tt
+    go false some = tokens_utf8 ts line r.utf8 some

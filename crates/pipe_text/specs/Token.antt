@@ -99,6 +99,11 @@ spelled (Digits d) = d
 spelled (Text b) = 34 ∷ (b ++ 34 ∷ [])
 spelled (Sign k) = symbol_text k
 
+-- the form of a word: a letter, then letters and digits
+abbrev pub is_word_text : List ℕ → Bool
+is_word_text [] = false
+is_word_text (c ∷ w) = is_letter c && list_all is_word w
+
 -- the form of each token
 abbrev pub IsLex : Lex → Type 0
 IsLex (Word []) = ⊥

@@ -1,8 +1,8 @@
 //! The token at the front of some bytes.
 
 ghost use Rattle.std.specs.Prelude.{◌≡◌, ◌≤◌, ◌<◌, ◌+◌, ◌^◌, length, take, IfSome, Some, None, option_map, false, slice_get};
-ghost use Rattle.std.specs.List.{prefix_len};
-ghost use Rattle.pipe_text.specs.Token.{is_blank, is_break, is_digit, is_escape, is_letter, is_name, is_plain, is_word, spelled, step, symbol_text, view};
+ghost use Rattle.std.specs.List.{list_all, prefix_len};
+ghost use Rattle.pipe_text.specs.Token.{is_blank, is_break, is_digit, is_escape, is_letter, is_name, is_plain, is_word, is_word_text, spelled, step, symbol_text, view};
 ghost use Rattle.pipe_text.specs.Reading.{body_at, first_symbol, front_of, is_next, quoted_at, symbols, texted};
 
 use crate::lexeme::{Lexeme, Symbol};
@@ -53,6 +53,28 @@ fn plain(c: u8) -> bool
     ensures { result ≡ is_plain c }
 {
     !(c == b'"' || c == b'\\' || breaks(c))
+}
+
+fn all_words(bytes: &[u8]) -> bool
+    ensures { result ≡ list_all is_word bytes.now }
+{
+    for c in bytes {
+        if !word(*c) {
+            return false;
+        }
+    }
+    true
+}
+
+/// Whether bytes have the form of a word: an ASCII letter or `_`, then letters, digits and `_`. Linear, and takes no
+/// memory.
+pub fn is_word_text(bytes: &[u8]) -> bool
+    ensures { result ≡ is_word_text bytes.now }
+{
+    match bytes {
+        [first, rest @ ..] => letter(*first) && all_words(rest),
+        [] => false,
+    }
 }
 
 fn words(bytes: &[u8]) -> usize

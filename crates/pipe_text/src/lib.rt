@@ -9,9 +9,12 @@
 #![tactic(auto)]
 
 mod front;
+mod laws;
 mod lexeme;
 mod line;
 
+pub use front::is_word_text;
+pub use laws::line_laws;
 pub use lexeme::{Lexeme, Symbol};
 pub use line::{LineFault, MAX_TOKENS, first_line, read_line};
 

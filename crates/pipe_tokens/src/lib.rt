@@ -8,3 +8,4 @@ mod lexemes;
 mod words;
 
 pub use lexemes::{meaning, meanings};
+pub use words::reserved;

@@ -5,8 +5,8 @@ ghost use Rattle.pipe_tokens.specs.Words.{reserved_of, verb_of};
 
 use pipe_expr::{Reserved, Verb};
 
-// What a word is where it is reserved in a version.
-pub(crate) fn reserved(version: u8, word: &str) -> Option<Reserved>
+/// What a word is where it is reserved in a version, which is 1 or 2. Linear, and takes no memory.
+pub fn reserved(version: u8, word: &str) -> Option<Reserved>
     ensures { result ≡ reserved_of version word.now }
 {
     match word {

@@ -6,4 +6,6 @@ mod arrays;
 #[cfg(test)]
 mod collections;
 #[cfg(test)]
+mod ranges;
+#[cfg(test)]
 mod rules;

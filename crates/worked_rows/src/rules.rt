@@ -1,4 +1,6 @@
 //! The tests and mappers of the rows.
+ghost use Rattle.std.specs.Prelude.{◌≢◌, pos};
+
 use par_laws::{Mapper, Memory, Test, Verdict};
 use par_rows::Value;
 use std::alloc::Global;
@@ -142,5 +144,60 @@ impl<'a> Test<&'a Value> for Only {
             Value::Int(value) if *value == self.wanted => Verdict::Pass,
             _ => Verdict::Fail,
         }
+    }
+}
+
+/// Whether a number leaves 1 when it is divided by 2.
+pub struct Odd;
+
+impl Test<i64> for Odd {
+    ghost use Rattle.std.specs.Prelude.{cond, int_rem, pos};
+    ghost use Rattle.std.specs.Ordering.{int_eq};
+    ghost use Rattle.par_laws.specs.declared.test.Verdict.TheVariants.{Pass, Fail};
+
+    ghost verdict = { λ _ x. cond (int_eq (int_rem x (pos 2)) (pos 1)) Pass Fail };
+
+    fn test(&self, item: &i64) -> Verdict {
+        if item.wrapping_rem(2) == 1 {
+            Verdict::Pass
+        } else {
+            Verdict::Fail
+        }
+    }
+}
+
+/// Whether a number is below 0.
+pub struct Negative;
+
+impl Test<i64> for Negative {
+    ghost use Rattle.std.specs.Prelude.{cond, int_lt, pos};
+    ghost use Rattle.par_laws.specs.declared.test.Verdict.TheVariants.{Pass, Fail};
+
+    ghost verdict = { λ _ x. cond (int_lt x (pos 0)) Pass Fail };
+
+    fn test(&self, item: &i64) -> Verdict {
+        if *item < 0 {
+            Verdict::Pass
+        } else {
+            Verdict::Fail
+        }
+    }
+}
+
+/// The quotient by a number that isn't 0, truncated toward zero, and the remainder.
+#[derive(Clone, Copy)]
+pub struct Divided {
+    pub by: i64,
+    pub ghost some: { by ≢ pos 0 },
+}
+
+impl Mapper<i64, (i64, i64)> for Divided {
+    ghost use Rattle.std.specs.Prelude.{int_rem};
+    ghost use Rattle.std.specs.Int.{w64, int_wrapping_div};
+
+    ghost mapped = { λ d x. (int_wrapping_div w64 x d.by, int_rem x d.by) };
+
+    fn map(&self, _alloc: Global, item: &i64) -> Result<(i64, i64), Memory> {
+        Ok((item.wrapping_div(self.by), item.wrapping_rem(self.by)))
     }
 }

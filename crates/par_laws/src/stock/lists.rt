@@ -13,14 +13,13 @@ use std::alloc::Global;
 use std::marker::PhantomData;
 
 /// One list after the other.
-#[derive(Clone, Copy, Debug, Default)]
+#[derive(Clone, Copy, Debug)]
 pub struct Concat<V> {
     of: PhantomData<V>,
 }
 
-impl<V> Concat<V> {
-    /// Takes no memory.
-    pub fn new() -> Concat<V> {
+impl<V> Default for Concat<V> {
+    fn default() -> Concat<V> {
         Concat { of: PhantomData }
     }
 }

@@ -1,8 +1,8 @@
-use Rattle.std.proofs.Common.{◌≡◌, map, subst, arith}
+use Rattle.std.proofs.Common.{◌≡◌, map, subst, arith, rules}
 use Rattle.std.proofs.lemmas.Bool.{false≢true}
 use Rattle.par_signal.specs.Values.{IsLow}
 use Rattle.par_task.specs.Marking.{low_flag, marks_of}
-use Rattle.par_jobs.proofs.Fronts.{low_past, between_none}
+use Rattle.par_jobs.proofs.Fronts.{low_past, between_none, leaf_after_read}
 use Rattle.par_jobs.proofs.low.pass_low.Goals as goal
 
 pub returns-then-flag-lo-clause-passed : goal.returns-then-flag-lo-clause-passed
@@ -19,3 +19,6 @@ returns-then-flag-lo-clause-passed g c =
       all = λ t. absurd (false≢true t);
       cut = λ _. omega (arith, begun, c.if-flag-lo.true, low_past marks c.read_low-flag.result flag_is);
     }))
+
+pub returns-clause-leaf : goal.returns-clause-leaf
+returns-clause-leaf g c = rw (← c.dup-items.ensures.lo_same, ← c.dup-items.ensures.items_same, ← c.take-asking.ensures.taken) (search (rules, leaf_after_read))

@@ -1,4 +1,4 @@
-use Rattle.std.proofs.Common.{◌≡◌, ◌∙◌, ap, sym, subst, refl, length, replicate, [], ◌∷◌, ◌++◌, arith, ℕ, List}
+use Rattle.std.proofs.Common.{◌∙◌, ap, sym, subst, length, [], ◌∷◌, ◌++◌, arith, ℕ, List}
 use Rattle.std.specs.Prelude.{ℤ}
 use Rattle.par_laws.specs.Hash.{int_hash}
 use Rattle.par_index.specs.Entries.{joined, AreBuckets}

@@ -1,7 +1,6 @@
-use Rattle.std.proofs.Common.{rules, arith, ap, subst, length, ℕ, ◌+◌, ◌<◌, ◌-◌, ◌%◌, ◌≢◌, get_or, suc, sym, ◌∙◌, ◌≡◌, ◌≤◌, length-append, ◌∷◌, [], slice_get, Some, refl}
+use Rattle.std.proofs.Common.{rules, arith, ap, length, ◌+◌, ◌<◌, ◌-◌, ◌%◌, get_or, suc, sym, ◌∙◌, ◌≡◌, length-append, slice_get, Some, refl}
 use Rattle.std.proofs.lemmas.Option.{slice_get-get_or}
 use Rattle.std.proofs.lemmas.Result.{on_ok_weaker, on_err_weaker}
-use Rattle.par_trie.specs.Places.{taken}
 use Rattle.par_trie.proofs.Digits.{is_index-set, taken-le}
 use Rattle.par_trie.proofs.Kids.{places_in-append, places_in-set, places_in-same}
 use Rattle.par_trie.proofs.branch.BranchNode.push.Goals as goal

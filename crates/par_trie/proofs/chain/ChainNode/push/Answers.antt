@@ -1,5 +1,3 @@
-use Rattle.std.proofs.Common.{◌∙◌, ap, ◌≡◌}
-use Rattle.par_trie.specs.Places.{places_among}
 use Rattle.par_trie.proofs.Digits.{places_among-push}
 use Rattle.par_trie.proofs.chain.ChainNode.push.Goals as goal
 

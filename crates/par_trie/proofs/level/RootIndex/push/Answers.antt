@@ -1,5 +1,5 @@
-use Rattle.std.proofs.Common.{◌≡◌, ◌∙◌, ap, refl, ◌||◌}
-use Rattle.par_index.specs.Places.{is_among, places_of}
+use Rattle.std.proofs.Common.{◌∙◌, ap, refl, ◌||◌}
+use Rattle.par_index.specs.Places.{is_among}
 use Rattle.par_index.proofs.Places.{is_among-append, is_among-places_of}
 use Rattle.par_trie.proofs.level.RootIndex.push.Goals as goal
 

@@ -1,5 +1,5 @@
-use Rattle.std.proofs.Common.{◌≡◌, ◌∙◌, ap, sym, subst, ◌++◌, ◌∷◌, [], append_assoc, length, arith, ◌+◌, ◌≤◌, ℕ, List}
-use Rattle.par_index.specs.Entries.{joined, IsApart}
+use Rattle.std.proofs.Common.{◌≡◌, ◌∙◌, ap, sym, ◌++◌, ◌∷◌, [], append_assoc, length, arith, ◌+◌, ◌≤◌}
+use Rattle.par_index.specs.Entries.{joined}
 use Rattle.par_index.proofs.Keeping.{joined-push, joined-room, buckets_apart}
 use Rattle.par_trie.specs.Buckets.{bucket_of_hash}
 use Rattle.par_trie.proofs.trie.HashTrie.from_buckets.Goals as goal

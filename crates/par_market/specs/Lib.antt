@@ -1,0 +1,3 @@
+pub mod Markets
+pub mod Deques
+pub mod Seats

@@ -1,0 +1,5 @@
+pub mod Bundles
+pub mod Own
+pub mod World
+pub mod Tails
+pub mod Lists

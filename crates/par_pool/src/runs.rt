@@ -1,0 +1,180 @@
+//! One run of a job by several workers.
+ghost use Rattle.std.specs.Prelude.{◌≡◌, ◌<◌, ◌≤◌, [], length, map, IfOk, All, vec_len};
+ghost use Rattle.par_task.specs.Marking.{marks_of};
+ghost use Rattle.par_board.specs.Calls.{HoldsNothing, OwnsTree};
+ghost use Rattle.par_pool.specs.Bundles.{IsBundle};
+ghost use Rattle.par_pool.specs.Lists.{IsList};
+ghost use Rattle.par_pool.specs.Own.{IsOwn, IsResting};
+
+use crate::bundle::Bundle;
+use crate::crew::help_all;
+use crate::shared::{Run, RunOf};
+use crate::tracked::Tracked;
+use crate::worker::{Hand, HandOf, WorkerOf};
+use par_board::{Board, BoardSeat};
+use par_edge::Gate;
+use par_laws::{Memory, Shown, Test};
+use par_market::{DequeMarket, DequeSeat, Market, Ticket};
+use par_signal::{Marks, SignalSeat, Signals};
+use par_splitter::Splitter;
+use par_task::{Job, Leaf};
+use std::alloc::Global;
+use std::snapshot::Snapshot;
+use std::sync::Wait;
+use std::thread::Threads;
+
+// A worker, with seats that are split from the first ones.
+fn hire<'a, J: Job, P: Drop>(
+    alloc: Global,
+    signals: &Signals,
+    board: &Board<'a, Tracked<J>>,
+    root: &mut BoardSeat<Tracked<J>>,
+    signal: &mut SignalSeat,
+    place: P,
+    number: u32,
+) -> Result<Hand<J, P>, Memory>
+    requires root { root.old.of ≡ board.now.of }
+    requires signal { signal.old.of ≡ signals.now }
+    ensures hand { IfOk result (λ h. IsResting J.kind (marks_of J.kind (J.verdicts board.now.job.job.value)) board.now.of signals.now h.worker.number h.worker.seat h.worker.signal h.worker.leaves.items × (h.place ≡ place)) }
+    ensures root { (root.new.of ≡ root.old.of) × (root.new.owns ≡ root.old.owns) × (root.new.holds ≡ root.old.holds) }
+    ensures signal { signal.new.of ≡ signals.now }
+{
+    let seat = board.split_seat(alloc, root)?;
+    let signal = signals.split_seat(alloc, signal)?;
+    Ok(HandOf {
+        worker: WorkerOf {
+            seat,
+            signal,
+            number,
+            leaves: Vec::new(alloc),
+        },
+        place,
+    })
+}
+
+// A worker for each of the places, with numbers from 1 on.
+fn hire_all<'a, J: Job, M: Market>(
+    alloc: Global,
+    signals: &Signals,
+    board: &Board<'a, Tracked<J>>,
+    root: &mut BoardSeat<Tracked<J>>,
+    signal: &mut SignalSeat,
+    _market: &M,
+    places: Vec<M::Seat>,
+) -> Result<Vec<Hand<J, M::Seat>>, Memory>
+    requires root { root.old.of ≡ board.now.of }
+    requires signal { signal.old.of ≡ signals.now }
+    requires places { (vec_len places < 64) × All (M.is_of _market.now) places.items }
+    ensures hands { IfOk result (λ v. All (λ h. IsResting J.kind (marks_of J.kind (J.verdicts board.now.job.job.value)) board.now.of signals.now h.worker.number h.worker.seat h.worker.signal h.worker.leaves.items × M.is_of _market.now h.place) v.items) }
+    ensures root { (root.new.of ≡ root.old.of) × (root.new.owns ≡ root.old.owns) × (root.new.holds ≡ root.old.holds) }
+    ensures signal { signal.new.of ≡ signals.now }
+{
+    let mut hands = Vec::with_capacity(alloc, places.len())?;
+    let mut number = 1;
+    for place in places {
+        hands.push(hire(alloc, signals, board, root, signal, place, number)?)?;
+        number += 1;
+    }
+    Ok(hands)
+}
+
+// The lists of the workers' leaves, the first worker's first.
+fn lists_of<J: Job, P: Drop>(
+    alloc: Global,
+    _job: &J,
+    first: Hand<J, P>,
+    others: Vec<Hand<J, P>>,
+) -> Result<Vec<Vec<Leaf>>, Memory>
+    requires first { IsOwn J.kind (marks_of J.kind (J.verdicts _job.now)) first.worker.number first.worker.signal first.worker.leaves.items }
+    requires others { All (λ h. IsOwn J.kind (marks_of J.kind (J.verdicts _job.now)) h.worker.number h.worker.signal h.worker.leaves.items) others.items }
+    ensures { IfOk result (λ v. All (λ l. IsList J.kind (marks_of J.kind (J.verdicts _job.now)) l.items) v.items) }
+{
+    let mut lists = Vec::with_capacity(alloc, others.len())?;
+    lists.push(leaves_of(_job, first))?;
+    for hand in others {
+        lists.push(leaves_of(_job, hand))?;
+    }
+    Ok(lists)
+}
+
+// The leaves of a worker.
+fn leaves_of<J: Job, P: Drop>(_job: &J, hand: Hand<J, P>) -> Vec<Leaf>
+    requires { IsOwn J.kind (marks_of J.kind (J.verdicts _job.now)) hand.worker.number hand.worker.signal hand.worker.leaves.items }
+    ensures { IsList J.kind (marks_of J.kind (J.verdicts _job.now)) result.items }
+{
+    let HandOf { worker, place: _ } = hand;
+    let WorkerOf {
+        seat: _,
+        signal: _,
+        number: _,
+        leaves,
+    } = worker;
+    leaves
+}
+
+/// Runs the job on so many workers, 2 to 64: what the root gives, and the leaves of each worker by turn, by its number.
+pub(crate) fn run_all<J: Job + Sync, M: Marks, G: Gate + Sync, R: Threads + Wait + Sync>(
+    rt: &R,
+    alloc: Global,
+    job: &J,
+    inner: &J::Pred,
+    marks: &M,
+    source: J::Split,
+    gate: &G,
+    workers: u32,
+    least: u32,
+) -> Result<(Bundle<J::Part>, Vec<Vec<Leaf>>), Memory>
+where
+    J::Split: Send,
+    J::Part: Send,
+    J::Pred: Send + Sync,
+    <J::Split as Splitter>::Item: Send,
+    requires source { (J.Split.lo source ≡ 0) × (J.Split.items source ≡ J.source job.now) }
+    requires small { length (J.source job.now) ≤ 4194304 }
+    requires test { map (J.Pred.verdict inner.now) (J.source job.now) ≡ J.verdicts job.now }
+    requires marks { M.marks marks.now ≡ marks_of J.kind (J.verdicts job.now) }
+    requires workers { (1 ≤ workers) × (workers ≤ 64) }
+    requires least { 1 ≤ least }
+    ensures bundle { IfOk result (λ r. IsBundle J.kind (marks_of J.kind (J.verdicts job.now)) (J.good job.now) (J.merges job.now) J.Part.shown 0 (length (J.source job.now)) r.0) }
+    ensures lists { IfOk result (λ r. All (λ l. IsList J.kind (marks_of J.kind (J.verdicts job.now)) l.items) r.1.items) }
+{
+    let n = source.remaining();
+    let (signals, mut signal) = Signals::open(alloc, marks, n)?;
+    let tracked = Tracked {
+        job: Snapshot::of(job),
+    };
+    let (board, mut root) = Board::open(alloc, &tracked, n)?;
+    let (market, mut places) = DequeMarket::open(alloc, workers)?;
+    let mut place = places.remove(0);
+    board.offer(&mut root, 1, source);
+    let ticket = Ticket {
+        node: 1,
+        lo: 0,
+        hi: n,
+    };
+    let _ = market.post(rt, &mut place, ticket);
+    let first = hire(alloc, &signals, &board, &mut root, &mut signal, place, 0)?;
+    let others = hire_all(
+        alloc,
+        &signals,
+        &board,
+        &mut root,
+        &mut signal,
+        &market,
+        places,
+    )?;
+    let run = RunOf {
+        alloc,
+        job,
+        inner,
+        signals: &signals,
+        gate,
+        board: &board,
+        market: &market,
+        least,
+    };
+    let (first, others) = help_all(rt, alloc, &run, first, others);
+    let bundle = run.wait_for(rt, &mut root, 1);
+    let lists = lists_of(alloc, job, first, others)?;
+    Ok((bundle, lists))
+}

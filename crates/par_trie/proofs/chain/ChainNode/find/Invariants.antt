@@ -1,9 +1,0 @@
-use Rattle.std.proofs.Common.{◌≡◌, drop}
-use Rattle.par_index.specs.Places.{first_such}
-use Rattle.par_trie.specs.Places.{places_among}
-use Rattle.par_trie.proofs.chain.ChainNode.find.Given as goal
-
--- what is found in what is left is what is found in all
-abbrev pub invariant-loop-leaf : goal.invariant-loop-leaf
-invariant-loop-leaf g l =
-    first_such (g.W.Wanted.is_wanted l.wanted) (places_among (drop l.leaf-index l.leaf-items) l.rest) ≡ first_such (g.W.Wanted.is_wanted l.wanted) (places_among l.self.leaves.items l.rest)

@@ -1,0 +1,4 @@
+pub mod Spelled
+pub mod Answers
+pub mod Bound
+pub mod Mapped

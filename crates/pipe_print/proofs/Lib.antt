@@ -1,0 +1,9 @@
+pub mod Writing
+pub mod Texts
+pub mod Tokens
+pub mod Names
+pub mod Numbers
+pub mod Canon
+pub mod Lexing
+pub mod Feeds
+pub mod Round
