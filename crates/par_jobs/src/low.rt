@@ -151,12 +151,14 @@ fn pass_items<S: Splitter, P: Test<S::Item>, B: Builder<S::Item>>(
             return Ok(leaf_did(flag, at, kept, Ended::Past));
         }
     }
-    Ok(leaf_did(flag, at, kept, Ended::Whole))
+    Ok(leaf_did(flag, hi, kept, Ended::Whole))
 }
 
 /// Passes the items of a leaf up to the first marked one, which it tells by the low flag. It passes none where the flag
 /// is at most `lo`, and breaks off where another leaf lowered the flag to what it has passed. The item that ended it and
-/// those left in `input` are all those from the place on where it ended.
+/// those left in `input` are all those from the place on where it ended. It stands inline with the loop, so that the
+/// caller's input stays in registers.
+#[inline(always)]
 pub(crate) fn pass_low<S: Splitter, P: Test<S::Item>, B: Builder<S::Item>>(
     alloc: Global,
     marked: &Marked<'_, S, P>,
@@ -181,18 +183,16 @@ pub(crate) fn pass_low<S: Splitter, P: Test<S::Item>, B: Builder<S::Item>>(
         return Ok(leaf_did(flag, lo, none, Ended::Past));
     }
     let mut asking = probe.take();
-    let mut items = input.dup();
     let passed = pass_items(
         alloc,
         marked,
         builder,
         flag,
-        &mut items,
+        input,
         &mut asking,
         signals,
         seat,
     );
     *probe = asking;
-    *input = items;
     passed
 }

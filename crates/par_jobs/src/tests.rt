@@ -150,52 +150,52 @@ fn leaves_of_a_hundred(did: [(u32, u64); 7]) -> [Leaf; 7] {
     ]
 }
 
+// The least number that is marked, where the front ends, and the flag and the tests of each leaf.
+const FRONTS_OF_A_HUNDRED: [(i64, u32, [(u32, u64); 7]); 3] = [
+    (
+        0,
+        0,
+        [
+            (100, 1),
+            (0, 0),
+            (0, 0),
+            (0, 0),
+            (0, 0),
+            (0, 0),
+            (0, 0),
+        ],
+    ),
+    (
+        100,
+        100,
+        [
+            (100, 1),
+            (100, 2),
+            (100, 3),
+            (100, 6),
+            (100, 13),
+            (100, 25),
+            (100, 50),
+        ],
+    ),
+    (
+        1,
+        1,
+        [
+            (100, 1),
+            (100, 1),
+            (1, 0),
+            (1, 0),
+            (1, 0),
+            (1, 0),
+            (1, 0),
+        ],
+    ),
+];
+
 #[test]
 fn the_front_of_a_hundred(rt: HostRuntime) -> Result<(), Fail> {
-    let skipped = |flag| (flag, 0);
-    // The least number that is marked, and what the leaves did.
-    let cases: [(i64, u32, [(u32, u64); 7]); 3] = [
-        (
-            0,
-            0,
-            [
-                (100, 1),
-                skipped(0),
-                skipped(0),
-                skipped(0),
-                skipped(0),
-                skipped(0),
-                skipped(0),
-            ],
-        ),
-        (
-            100,
-            100,
-            [
-                (100, 1),
-                (100, 2),
-                (100, 3),
-                (100, 6),
-                (100, 13),
-                (100, 25),
-                (100, 50),
-            ],
-        ),
-        (
-            1,
-            1,
-            [
-                (100, 1),
-                (100, 1),
-                skipped(1),
-                skipped(1),
-                skipped(1),
-                skipped(1),
-                skipped(1),
-            ],
-        ),
-    ];
-    for (least, end, did) in cases {
+    for (least, end, did) in FRONTS_OF_A_HUNDRED {
         let source = from_to(0, 100).ok_or("few")?;
         let rule = Rule { least, faulty: -1 };
         let (part, audit) = front(rt.alloc(), source, &rule, 8)?;

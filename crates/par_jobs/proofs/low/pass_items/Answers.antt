@@ -185,12 +185,11 @@ returns-clause-leaf g c =
 pub returns-clause-passed : goal.returns-clause-passed
 returns-clause-passed g c =
     let source = g.S.Splitter.items c.args.marked.now.split in
-    let verdicts = map (g.P.Test.verdict c.args.marked.now.inner) source in
-    let marks = marks_of low_flag verdicts in
     let i = c.loop-item.invariant in
     let scan = rw i.lo_is at i.scan in
     let e : c.loop-item.at ≡ g.S.Splitter.lo c.args.input.now + length (g.S.Splitter.items c.args.input.now) = omega (arith, scan.ends, ap length c.in_default.ensures.none) in
-    rw c.leaf_did-2.ensures (
+    let ends : c.span-lo.result.1 ≡ c.loop-item.at = c.span-lo.ensures.hi ∙ sym e in
+    rw c.leaf_did-2.ensures (rw ends (
       refl,
       record {
         from = scan.from;
@@ -200,7 +199,7 @@ returns-clause-passed g c =
         all = λ _. e;
         cut = λ u. absurd (false≢true (sym u));
       },
-    )
+    ))
 
 pub returns-then-past-clause-left : goal.returns-then-past-clause-left
 returns-then-past-clause-left g c =

@@ -21,4 +21,4 @@ returns-then-flag-lo-clause-passed g c =
     }))
 
 pub returns-clause-leaf : goal.returns-clause-leaf
-returns-clause-leaf g c = rw (← c.dup-items.ensures.lo_same, ← c.dup-items.ensures.items_same, ← c.take-asking.ensures.taken) (search (rules, leaf_after_read))
+returns-clause-leaf g c = rw (← c.take-asking.ensures.taken) (search (rules, leaf_after_read))
