@@ -4,3 +4,5 @@ pub mod Settled
 pub mod Again
 pub mod Columns
 pub mod Counting
+mod Numbering
+mod Soundness

@@ -77,10 +77,10 @@ settled laws text = elim (walk laws (lines text) start 1 no_parts [] nothing_yet
 
 -- ---- a line has one answer
 
-silent_says : Laws → (p : Spot) (line : List ℕ) (y : Said) → ReadsAs line [] → Says p line y → ⊥
+pub silent_says : Laws → (p : Spot) (line : List ℕ) (y : Said) → ReadsAs line [] → Says p line y → ⊥
 silent_says laws p line y a s = let e = (laws.line_unique line).reading [] (s.0 ∷ s.1) a s.2 in cc e
 
-same_saying : Laws → (p : Spot) (line : List ℕ) (x y : Said) → Says p line x → Says p line y → x ≡ y
+pub same_saying : Laws → (p : Spot) (line : List ℕ) (x y : Said) → Says p line x → Says p line y → x ≡ y
 same_saying laws p line x y a b =
     let e = (laws.line_unique line).reading (b.0 ∷ b.1) (a.0 ∷ a.1) b.2 a.2 in
     let b' : Accepts p y (all_meant p.version (a.0 ∷ a.1)) = subst (λ (us : List Lex). Accepts p y (all_meant p.version us)) e b.3 in

@@ -1,18 +1,23 @@
 -- Which text reads as which pipeline, and how each other text is refused.
-use Rattle.std.specs.Prelude.{◌≡◌, ◌≢◌, ◌⊎◌, ◌++◌, ℕ, suc, true, false, List, [], ◌∷◌}
+use Rattle.std.specs.Prelude.{◌≡◌, ◌≢◌, ◌⊎◌, ◌++◌, ◌+◌, ◌≤◌, ℕ, suc, length, true, false, List, [], ◌∷◌}
 use Rattle.std.specs.Str.Lines.{lines}
 use Rattle.pipe_text.specs.declared.line.LineFault.{LineFault}
 use Rattle.pipe_text.specs.declared.line.LineFault.TheVariants as faults
 use Rattle.pipe_text.specs.Token.{Lex}
 use Rattle.pipe_text.specs.Line.{IsRefused, ReadsAs}
 use Rattle.pipe_tokens.specs.Meaning.{all_meant}
-use Rattle.pipe_steps.specs.Said.{Said}
+use Rattle.par_rows.specs.declared.schema.Column.{Column}
+use Rattle.pipe_steps.specs.Said.{Said, Middle, End, Begins, Goes, Ends, view}
 use Rattle.pipe_program.specs.declared.refusal.ParseStop.{ParseStop}
 use Rattle.pipe_program.specs.declared.refusal.ParseStop.TheVariants as stops
 use Rattle.pipe_checks.specs.declared.fault.Fault.{Fault}
 use Rattle.pipe_checks.specs.declared.fault.LineStop.{LineStop}
 use Rattle.pipe_checks.specs.declared.fault.LineStop.TheVariants as lines_stop
-use Rattle.pipe_checks.specs.Places.{Spot, Accepts, Refuses, next, rank, start}
+use Rattle.pipe_checks.specs.Columns.{are_distinct, columns_after, source_columns, step_columns}
+use Rattle.pipe_checks.specs.Kinds.{fits, known}
+use Rattle.pipe_checks.specs.Places.{Spot, Accepts, Refuses, moves, next, rank, split_fits, start}
+use Rattle.pipe_checks.specs.Uses.{every}
+use Rattle.pipe_program.specs.declared.numbered.Numbered.{Numbered}
 use Rattle.pipe_program.specs.Plans.{Plan, AreOf}
 use Rattle.pipe_program.specs.Parts.{Parts, with_line}
 
@@ -44,6 +49,18 @@ RefusedFrom p n [] at kind = (p.ended ≡ false) × (at ≡ n) × (kind ≡ 13)
 RefusedFrom p n (line ∷ rest) at kind =
     ((at ≡ n) × RefusesLine p line kind)
     ⊎ ((ReadsAs line [] × RefusedFrom p (suc n) rest at kind) ⊎ ((y : Said) × Says p line y × RefusedFrom (next p y) (suc n) rest at kind))
+
+-- the lines from number n on say these things, each with the number of its line
+abbrev pub NumberedFrom : Spot → ℕ → List (List ℕ) → List (ℕ × Said) → Type 0
+NumberedFrom p n [] zs = zs ≡ []
+NumberedFrom p n (line ∷ rest) zs = (ReadsAs line [] × NumberedFrom p (suc n) rest zs) ⊎ ((y : Said) × (more : List (ℕ × Said)) × Says p line y × NumberedFrom (next p y) (suc n) rest more × (zs ≡ (n, y) ∷ more))
+
+-- the bytes say these things, each on the line of this number
+abbrev pub AreNumbered : List ℕ → List (ℕ × Said) → Type 0
+AreNumbered text zs = NumberedFrom start 1 (lines text) zs
+
+abbrev pub numbered : Numbered → ℕ × Said
+numbered z = (z.at, view z.said)
 
 -- the bytes say these things, line by line
 abbrev pub AreSaid : List ℕ → List Said → Type 0
@@ -88,6 +105,12 @@ Takes p line before q after =
     (ReadsAs line [] × (q ≡ p) × (after ≡ before))
     ⊎ ((y : Said) × Says p line y × (q ≡ next p y) × (after ≡ with_line before y))
 
+-- a line with this number is noted: it is blank or a comment and nothing changes, or what it says is added
+abbrev pub Notes : Spot → List ℕ → ℕ → List (ℕ × Said) → Spot → List (ℕ × Said) → Type 0
+Notes p line n before q after =
+    (ReadsAs line [] × (q ≡ p) × (after ≡ before))
+    ⊎ ((y : Said) × Says p line y × (q ≡ next p y) × (after ≡ before ++ (n, y) ∷ []))
+
 -- the text reads as a plan or is refused
 abbrev pub IsSettled : List ℕ → Type 0
 IsSettled text = ((p : Plan) × Reads text p) ⊎ ((at : ℕ) × (kind : ℕ) × IsRefusedText text at kind)
@@ -97,3 +120,22 @@ pub record IsUnique (text : List ℕ) : Type 0 where
   pub reading : (p q : Plan) → Reads text p → Reads text q → p ≡ q
   pub refusal : (at kind line why : ℕ) → IsRefusedText text at kind → IsRefusedText text line why → (at ≡ line) × (kind ≡ why)
   pub apart : (p : Plan) (at kind : ℕ) → Reads text p → ¬ (IsRefusedText text at kind)
+
+-- nothing that a line says is wrong over the columns before it: each name is there and no two columns after it have one name, each operand has the right kind, and neither the step of a range nor a separator is 0 or empty
+pub record IsFaultless (cs : List Column) (y : Said) : Type 0 where
+  pub named : every (known cs) y ≡ true
+  pub apart : are_distinct (columns_after cs y) ≡ true
+  pub typed : every (fits cs) y ≡ true
+  pub splits : split_fits cs y ≡ true
+  pub moving : moves y ≡ true
+
+-- the same of steps and a last step behind them
+abbrev pub AreFaultless : List Column → List Middle → End → Type 0
+AreFaultless cs [] last = IsFaultless cs (Ends last)
+AreFaultless cs (m ∷ ms) last = IsFaultless cs (Goes m) × AreFaultless (step_columns cs m) ms last
+
+-- nothing of the plan is wrong, and it has at most 64 steps with its source and its last step
+pub record IsSound (p : Plan) : Type 0 where
+  pub source : IsFaultless [] (Begins p.origin)
+  pub steps : AreFaultless (source_columns p.origin) p.middles p.last
+  pub few : length p.middles + 2 ≤ 64

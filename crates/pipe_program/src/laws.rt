@@ -1,10 +1,10 @@
 //! Laws of texts, for the crates above.
 
-ghost use Rattle.std.specs.Prelude.{ℕ, ◌+◌, ◌≤◌, List, length};
+ghost use Rattle.std.specs.Prelude.{◌≡◌, ℕ, ◌+◌, ◌≤◌, List, length, map};
 ghost use Rattle.std.specs.Str.Lines.{lines};
 ghost use Rattle.pipe_steps.specs.Said.{Said};
 ghost use Rattle.pipe_program.specs.Plans.{AreOf, Plan};
-ghost use Rattle.pipe_program.specs.Reading.{IsSettled, IsUnique, Reads};
+ghost use Rattle.pipe_program.specs.Reading.{AreNumbered, AreSaid, IsSettled, IsSound, IsUnique, Reads};
 ghost use Rattle.pipe_program.specs.Spelling.{AreSayable, AreSpelled, steps_of};
 
 use pipe_checks::place_laws;
@@ -16,6 +16,11 @@ pub fn text_laws()
     // each text reads as a plan or is refused, and just one of them
     ensures settled { (text : List ℕ) → IsSettled text }
     ensures unique { (text : List ℕ) → IsUnique text }
+    // what the numbered lines say is what the text says
+    ensures numbered { (text : List ℕ) (ys : List Said) (zs : List (ℕ × Said)) → AreSaid text ys → AreNumbered text zs → map (λ z. z.1) zs ≡ ys }
+    ensures one_numbering { (text : List ℕ) (zs ws : List (ℕ × Said)) → AreNumbered text zs → AreNumbered text ws → zs ≡ ws }
+    // nothing of a plan that is read is wrong
+    ensures sound { (text : List ℕ) (p : Plan) → Reads text p → IsSound p }
     // a text has at most one line more than bytes
     ensures few { (text : List ℕ) → length (lines text) ≤ length text + 1 }
 {

@@ -6,12 +6,14 @@
 
 mod draft;
 mod laws;
+mod numbered;
 mod pipeline;
 mod reading;
 mod refusal;
 mod schema;
 
 pub use laws::{spelling_laws, text_laws};
+pub use numbered::{Numbered, numbered_lines};
 pub use pipeline::Pipeline;
 pub use reading::parse;
 pub use refusal::{ParseStop, Refusal};

@@ -105,7 +105,7 @@ fn read_tokens(
 }
 
 // What a line with this number says in its place, and the place after it; nothing on a blank line or a comment.
-fn read_one(
+pub(crate) fn read_one(
     alloc: Global,
     place: &Place,
     at: u32,

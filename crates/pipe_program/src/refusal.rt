@@ -1,5 +1,7 @@
 //! Where a text is refused, and why.
 
+use std::alloc::AllocFailed;
+
 /// Where a text is refused, and why.
 #[derive(Clone, Copy, Debug, PartialEq, Eq)]
 pub struct Refusal {
@@ -18,4 +20,16 @@ pub enum ParseStop {
     Refused(Refusal),
     /// Want of memory, of which no clause says when it comes.
     Memory,
+}
+
+/// Drops the value that was not stored.
+impl<T: Drop> From<AllocFailed<T>> for ParseStop {
+    ghost use Rattle.std.specs.Prelude.{◌≡◌};
+    ghost use Rattle.pipe_program.specs.declared.refusal.ParseStop.TheVariants as stops;
+
+    ghost from_gives = { λ _ stop. stop ≡ stops.Memory };
+
+    fn from(_refused: AllocFailed<T>) -> ParseStop {
+        ParseStop::Memory
+    }
 }

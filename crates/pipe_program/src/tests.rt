@@ -1,5 +1,6 @@
-use crate::{ParseStop, parse};
+use crate::{ParseStop, numbered_lines, parse, text_laws};
 use std::alloc::{AllocError, Global};
+use std::test::Fail;
 
 // 100 times the line, and the kind of its refusal; 0 where the text reads, and 50 for want of memory.
 fn refusal(alloc: Global, text: &[u8]) -> u32 {
@@ -202,5 +203,27 @@ fn columns(rt: HostRuntime) -> Result<(), AllocError> {
         210
     );
     assert_eq!(rt; wide(rt.alloc(), 64, b"zipWithIndex as c01\nprint")?, 208);
+    Ok(())
+}
+
+// The numbers of the lines that say something.
+fn places(alloc: Global, text: &[u8]) -> Result<Vec<u32>, Fail> {
+    text_laws();
+    if text.len() >= 65536 {
+        return Err("long".into());
+    }
+    let lines = numbered_lines(alloc, text).map_err(|_| "refused")?;
+    let mut places = Vec::new(alloc);
+    for line in lines.iter() {
+        places.push(line.at)?;
+    }
+    Ok(places)
+}
+
+#[test]
+fn numbers_of_lines(rt: HostRuntime) -> Result<(), Fail> {
+    let text: &[u8] = b"# a range\n\nfrom range 0 until 3\npar vector\n \t\ntake 1\nsize\n";
+    let found = places(rt.alloc(), text)?;
+    assert_eq!(rt; found.as_slice(), [3, 4, 6, 7].as_slice());
     Ok(())
 }

@@ -1,2 +1,0 @@
-mod Ints
-mod Lines

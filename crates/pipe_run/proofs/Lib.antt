@@ -1,4 +1,0 @@
-mod Deciding
-mod Ending
-mod Pieces
-mod Rows
