@@ -1,0 +1,5 @@
+pub mod Rules
+pub mod Looks
+pub mod Settling
+pub mod Turns
+pub mod Agreeing
