@@ -3,3 +3,4 @@ pub mod Looks
 pub mod Settling
 pub mod Turns
 pub mod Agreeing
+pub mod Rows
