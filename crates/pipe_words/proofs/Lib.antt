@@ -4,3 +4,5 @@ pub mod Settling
 pub mod Turns
 pub mod Agreeing
 pub mod Rows
+pub mod Refusals
+pub mod Outcomes
