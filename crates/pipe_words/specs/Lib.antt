@@ -2,3 +2,4 @@ pub mod Parts
 pub mod Numbers
 pub mod Commands
 pub mod App
+pub mod Views

@@ -1,29 +1,74 @@
-ghost use Rattle.std.specs.Prelude.{◌≡◌, IfOk, option_map, map, string_bytes, None, List, ℕ, true, false, []};
-ghost use Rattle.clap.specs.Words.{app_of, fault_of, found_of, is_simple_and_free, kind_of, matches_of, rows_of, rule_of, takes, FailsBy};
-ghost use Rattle.pipe_words.specs.App.{flag_rule, parcoll_app, plain_app, value_rule, words_rule};
-ghost use Rattle.pipe_words.specs.Commands.{command_of};
-ghost use Rattle.pipe_words.specs.Parts.{look_of};
+//! The words, read by the grammar and then by the shape of their positionals.
+ghost use Rattle.std.specs.Prelude.{◌≡◌, IfOk, List, ℕ, map, option_map, string_bytes};
+ghost use Rattle.pipe_words.specs.Commands.{asked, check_of, command_of, run_of, run_with};
+ghost use Rattle.pipe_words.specs.Views.{view};
 
-use clap::{Arg, ArgAction, ArgMatches};
-use clap::Command as Grammar;
+use crate::command::Command;
+use crate::grammar::{AUDIT, LEVEL, WORDS, WORKERS, grammar};
+use crate::number::number_or_else;
+use clap::ArgMatches;
+use clap::error::ErrorKind;
 use par_laws::Memory;
-use std::alloc::{AllocError, Global};
+use std::alloc::Global;
 
-/// What lawful words ask for.
-#[derive(Clone, Copy, Debug, PartialEq, Eq)]
-pub enum Command<'w> {
-    /// Run a pipeline.
-    Run {
-        pipe: &'w str,
-        data: Option<&'w str>,
-        workers: u32,
-        level: u32,
-        audit: bool,
-    },
-    /// Check a pipeline.
-    Check { pipe: &'w str },
+const WORKERS_IF_NONE: u32 = 4;
+
+// `run PIPE` and `run PIPE DATA`.
+fn run<'w>(
+    pipe: &'w str,
+    data: Option<&'w str>,
+    workers: Option<&str>,
+    level: Option<&str>,
+    audit: bool,
+) -> Option<Command<'w>>
+    ensures { option_map view result ≡ run_with pipe.entry.now (option_map (λ t. t.now) «data».entry) (option_map (λ t. t.now) workers.entry) (option_map (λ t. t.now) level.entry) audit }
+{
+    let workers = number_or_else(WORKERS_IF_NONE, workers)?;
+    let level = number_or_else(workers, level)?;
+    Some(Command::Run {
+        pipe,
+        data,
+        workers,
+        level,
+        audit,
+    })
 }
 
-pub fn read_words(words: &[String]) -> bool {
-    words.is_empty()
+// What the positionals ask for, with these options.
+fn command<'w>(
+    words: &[&'w str],
+    workers: Option<&str>,
+    level: Option<&str>,
+    audit: bool,
+) -> Option<Command<'w>>
+    ensures { option_map view result ≡ asked (map (λ t. t.now) words.entry.now) (option_map (λ t. t.now) workers.entry) (option_map (λ t. t.now) level.entry) audit }
+{
+    match words {
+        ["run", pipe] => run(pipe, None, workers, level, audit),
+        ["run", pipe, data] => run(pipe, Some(data), workers, level, audit),
+        ["check", pipe] if workers.is_none() && level.is_none() && !audit => Some(Command::Check { pipe }),
+        _ => None,
+    }
+}
+
+fn command_of_matches<'w>(matches: &ArgMatches<'w>) -> Option<Command<'w>> {
+    command(
+        matches.get_strs(WORDS).unwrap_or(&[]),
+        matches.get_str(WORKERS),
+        matches.get_str(LEVEL),
+        matches.get_flag(AUDIT),
+    )
+}
+
+/// The command that the words ask for, or None where they are not lawful.
+///
+/// The words stand after the program's name. Errors: `Memory`, and nothing else.
+pub fn read_words<'w>(alloc: Global, words: &'w [String]) -> Result<Option<Command<'w>>, Memory>
+    ensures { IfOk result (λ read. option_map view read ≡ command_of (map string_bytes words.entry.now)) }
+{
+    match grammar(alloc)?.try_get_matches_from(words) {
+        Ok(matches) => Ok(command_of_matches(&matches)),
+        Err(error) if error.kind() == ErrorKind::OutOfMemory => Err(Memory),
+        Err(_) => Ok(None),
+    }
 }
