@@ -6,3 +6,5 @@ pub mod Agreeing
 pub mod Rows
 pub mod Refusals
 pub mod Outcomes
+pub mod Getters
+pub mod Reading

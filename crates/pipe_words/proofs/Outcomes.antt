@@ -11,6 +11,7 @@ use Rattle.clap.specs.declared.builder.value_parser.Reading.{Reading}
 use Rattle.clap.specs.declared.builder.value_parser.Reading.TheVariants as reading
 use Rattle.clap.specs.declared.parser.matches.ValueSource.TheVariants.{DefaultValue}
 use Rattle.pipe_words.specs.App.{parcoll_app}
+use Rattle.pipe_words.specs.Rows.{asked_by_rows, flag_text}
 use Rattle.pipe_words.specs.Parts.{Audit, Level, Part, Positional, Role, Text, Workers, texts_of}
 use Rattle.pipe_words.specs.Commands.{Asked, asked, asked_by, at_most_one, command_of}
 use Rattle.pipe_words.proofs.Agreeing.{AreUtf8, agrees, clap_parts}
@@ -110,11 +111,7 @@ first_by_all id rows = go (find (λ r. bytes_eq r.id id) rows)
     go None = refl
     go (Some r) = refl
 
-abbrev pub bool_text : Bool → Text
-bool_text true = codes "true"
-bool_text false = codes "false"
-
-read_bool : (how : Reading) (b : Bool) → read_as how (bool_text b) ≡ bool_text b
+read_bool : (how : Reading) (b : Bool) → read_as how (flag_text b) ≡ flag_text b
 read_bool reading.AsWritten b = refl
 read_bool reading.WithoutMinus true = refl
 read_bool reading.WithoutMinus false = refl
@@ -123,13 +120,13 @@ read_bool reading.Boolish false = refl
 read_bool reading.Falsey true = refl
 read_bool reading.Falsey false = refl
 
-one_by_all : (id : Text) (rows : List Row) (b : Bool) (rest : List Text) → all_of id rows ≡ Some (bool_text b ∷ rest) → one_of id rows ≡ Some (bool_text b)
+one_by_all : (id : Text) (rows : List Row) (b : Bool) (rest : List Text) → all_of id rows ≡ Some (flag_text b ∷ rest) → one_of id rows ≡ Some (flag_text b)
 one_by_all id rows b rest h = go (find (λ r. bytes_eq r.id id) rows) h
   where
-    go : (o : Option Row) → option_map (λ (r : Row). r.values) o ≡ Some (bool_text b ∷ rest) → option_and_then row_text o ≡ Some (bool_text b)
+    go : (o : Option Row) → option_map (λ (r : Row). r.values) o ≡ Some (flag_text b ∷ rest) → option_and_then row_text o ≡ Some (flag_text b)
     go None h = cc h
     go (Some r) h =
-        let is : r.values ≡ bool_text b ∷ rest = cc h in
+        let is : r.values ≡ flag_text b ∷ rest = cc h in
         ap (λ vs. option_map (read_as r.reading) (slice_get vs 0)) is ∙ ap Some (read_bool r.reading b)
 
 -- the flag's default changes no other row
@@ -147,8 +144,8 @@ default_kept id rows differ = rw (audit_rule.0, audit_rule.1) (go (has_row (code
 -- ---- what the matches say
 
 abbrev pub Tells : List Row → Option Asked → Type 0
-Tells rows c = (b : Bool) × (one_of (codes "audit") rows ≡ Some (bool_text b))
-    × (c ≡ asked (unwrap_or (all_of (codes "word") rows) []) (first_of (codes "workers") rows) (first_of (codes "level") rows) b)
+Tells rows c = (b : Bool) × (one_of (codes "audit") rows ≡ Some (flag_text b))
+    × (c ≡ asked_by_rows rows b)
 
 texts_back : (xs : List Text) → unwrap_or (as_option (map (text_for Positional) xs)) [] ≡ xs
 texts_back [] = refl
@@ -165,7 +162,7 @@ once_level (x ∷ []) h = refl
 once_level (x ∷ y ∷ xs) h = absurd (omega arith)
 
 audit_told : (rows : List Row) (xs : List Text) → all_of (codes "audit") rows ≡ as_option (map (text_for Audit) xs) → length xs ≤ 1
-    → (b : Bool) × (one_of (codes "audit") (with_default rows (rule_by Audit)) ≡ Some (bool_text b)) × (option_map is_some (at_most_one xs) ≡ Some b)
+    → (b : Bool) × (one_of (codes "audit") (with_default rows (rule_by Audit)) ≡ Some (flag_text b)) × (option_map is_some (at_most_one xs) ≡ Some b)
 audit_told rows [] h single =
     let none : has_row (codes "audit") rows ≡ false = has_all (codes "audit") rows ∙ ap is_some h in
     let given : all_of (codes "audit") (with_default rows (rule_by Audit)) ≡ Some (codes "false" ∷ []) =

@@ -3,3 +3,4 @@ pub mod Numbers
 pub mod Commands
 pub mod App
 pub mod Views
+pub mod Rows

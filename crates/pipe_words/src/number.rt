@@ -1,9 +1,14 @@
-ghost use Rattle.std.specs.Prelude.{◌≡◌, option_map};
-ghost use Rattle.pipe_words.specs.Numbers.{number_of, number_or};
+//! The numbers of workers and levels.
+ghost use Rattle.std.specs.Prelude.{◌≡◌, ◌<◌, ◌-◌, IfSome, option_map, Some, None, if◌then◌else◌};
+ghost use Rattle.std.specs.Char.{is_ascii_digit};
+ghost use Rattle.pipe_words.specs.Numbers.{limited, number_of, number_or};
 
 const MOST: u32 = 64;
 
-fn digit(byte: u8) -> Option<u32> {
+fn digit(byte: u8) -> Option<u32>
+    ensures value { result ≡ (if is_ascii_digit byte then Some (byte - 48) else None) }
+    ensures small { IfSome result (λ d. d < 10) }
+{
     if byte.is_ascii_digit() {
         Some((byte - b'0') as u32)
     } else {
@@ -11,19 +16,26 @@ fn digit(byte: u8) -> Option<u32> {
     }
 }
 
-fn spelled(text: &str) -> Option<u32> {
-    match text.as_bytes() {
-        [one] => digit(*one),
-        [ten, one] => Some(10 * digit(*ten)? + digit(*one)?),
-        _ => None,
+// The number, where it is lawful.
+fn within_limits(number: u32) -> Option<u32>
+    ensures { result ≡ limited number }
+{
+    if 1 <= number && number <= MOST {
+        Some(number)
+    } else {
+        None
     }
 }
 
-/// The number of one or two digits, where it is from 1 to 64.
+// The number of one or two digits, from 1 to 64.
 fn number_of_text(text: &str) -> Option<u32>
     ensures { result ≡ number_of text.now }
 {
-    spelled(text).filter(|number| 1 <= *number && *number <= MOST)
+    match text.as_bytes() {
+        [one] => within_limits(digit(*one)?),
+        [ten, one] => within_limits(10 * digit(*ten)? + digit(*one)?),
+        _ => None,
+    }
 }
 
 /// The number of an option's text, or the fallback where the option isn't given.

@@ -1,6 +1,8 @@
 //! The words, read by the grammar and then by the shape of their positionals.
-ghost use Rattle.std.specs.Prelude.{◌≡◌, IfOk, List, ℕ, map, option_map, string_bytes};
+ghost use Rattle.std.specs.Prelude.{◌≡◌, Bool, IfOk, Some, codes, map, option_map, string_bytes};
+ghost use Rattle.clap.specs.Words.{found_of, one_of, rows_of};
 ghost use Rattle.pipe_words.specs.Commands.{asked, check_of, command_of, run_of, run_with};
+ghost use Rattle.pipe_words.specs.Rows.{asked_by_rows, flag_text};
 ghost use Rattle.pipe_words.specs.Views.{view};
 
 use crate::command::Command;
@@ -13,8 +15,7 @@ use std::alloc::Global;
 
 const WORKERS_IF_NONE: u32 = 4;
 
-// `run PIPE` and `run PIPE DATA`.
-fn run<'w>(
+fn run_over<'w>(
     pipe: &'w str,
     data: Option<&'w str>,
     workers: Option<&str>,
@@ -34,6 +35,35 @@ fn run<'w>(
     })
 }
 
+fn run<'w>(
+    names: &[&'w str],
+    workers: Option<&str>,
+    level: Option<&str>,
+    audit: bool,
+) -> Option<Command<'w>>
+    ensures { option_map view result ≡ run_of (map (λ t. t.now) names.entry.now) (option_map (λ t. t.now) workers.entry) (option_map (λ t. t.now) level.entry) audit }
+{
+    match names {
+        [pipe] => run_over(pipe, None, workers, level, audit),
+        [pipe, data] => run_over(pipe, Some(*data), workers, level, audit),
+        _ => None,
+    }
+}
+
+fn check<'w>(
+    names: &[&'w str],
+    workers: Option<&str>,
+    level: Option<&str>,
+    audit: bool,
+) -> Option<Command<'w>>
+    ensures { option_map view result ≡ check_of (map (λ t. t.now) names.entry.now) (option_map (λ t. t.now) workers.entry) (option_map (λ t. t.now) level.entry) audit }
+{
+    match (names, workers, level, audit) {
+        ([pipe], None, None, false) => Some(Command::Check { pipe }),
+        _ => None,
+    }
+}
+
 // What the positionals ask for, with these options.
 fn command<'w>(
     words: &[&'w str],
@@ -43,15 +73,20 @@ fn command<'w>(
 ) -> Option<Command<'w>>
     ensures { option_map view result ≡ asked (map (λ t. t.now) words.entry.now) (option_map (λ t. t.now) workers.entry) (option_map (λ t. t.now) level.entry) audit }
 {
-    match words {
-        ["run", pipe] => run(pipe, None, workers, level, audit),
-        ["run", pipe, data] => run(pipe, Some(data), workers, level, audit),
-        ["check", pipe] if workers.is_none() && level.is_none() && !audit => Some(Command::Check { pipe }),
-        _ => None,
+    let (mode, names) = words.split_first()?;
+    if *mode == "run" {
+        run(names, workers, level, audit)
+    } else if *mode == "check" {
+        check(names, workers, level, audit)
+    } else {
+        None
     }
 }
 
-fn command_of_matches<'w>(matches: &ArgMatches<'w>) -> Option<Command<'w>> {
+// What the matches ask for, where their flag says `b`.
+fn command_of_matches<'w>(matches: &ArgMatches<'w>) -> Option<Command<'w>>
+    ensures { (b : Bool) → one_of (codes "audit") (rows_of (found_of matches.now)) ≡ Some (flag_text b) → option_map view result ≡ asked_by_rows (rows_of (found_of matches.now)) b }
+{
     command(
         matches.get_strs(WORDS).unwrap_or(&[]),
         matches.get_str(WORKERS),
@@ -68,7 +103,9 @@ pub fn read_words<'w>(alloc: Global, words: &'w [String]) -> Result<Option<Comma
 {
     match grammar(alloc)?.try_get_matches_from(words) {
         Ok(matches) => Ok(command_of_matches(&matches)),
-        Err(error) if error.kind() == ErrorKind::OutOfMemory => Err(Memory),
-        Err(_) => Ok(None),
+        Err(error) => match error.kind() {
+            ErrorKind::OutOfMemory => Err(Memory),
+            _ => Ok(None),
+        },
     }
 }
