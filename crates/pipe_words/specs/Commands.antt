@@ -50,3 +50,8 @@ asked_by parts =
 -- what the words ask for, or None where they are not lawful
 abbrev pub command_of : List Text → Option Asked
 command_of words = option_and_then asked_by (parts_after None words)
+
+-- from 1 to 64 workers, and a level from 1 to 64
+abbrev pub IsWithinLimits : Asked → Type 0
+IsWithinLimits (Run pipe table workers level audit) = (1 ≤ workers) × (workers ≤ 64) × (1 ≤ level) × (level ≤ 64)
+IsWithinLimits (Check pipe) = Unit {0}

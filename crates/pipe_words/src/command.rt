@@ -12,5 +12,7 @@ pub enum Command<'w> {
         audit: bool,
     },
     /// `check PIPE`: to say whether the pipeline is lawful.
-    Check { pipe: &'w str },
+    Check {
+        pipe: &'w str,
+    },
 }

@@ -33,9 +33,7 @@ fn flag<'a>(alloc: Global, id: &'a str) -> Arg<'a>
     ensures rule { rule_of result ≡ flag_rule id.entry.now }
     ensures local { result.global ≡ false }
 {
-    Arg::new(alloc, id)
-        .long(id)
-        .action(ArgAction::SetTrue)
+    Arg::new(alloc, id).long(id).action(ArgAction::SetTrue)
 }
 
 fn bare<'a>(alloc: Global) -> Command<'a>

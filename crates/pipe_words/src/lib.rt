@@ -16,9 +16,13 @@
 
 mod command;
 mod grammar;
+mod laws;
 mod number;
 mod reader;
 
 pub use command::Command;
+pub use laws::word_laws;
 pub use reader::read_words;
 
+#[cfg(test)]
+mod tests;
