@@ -1,14 +1,14 @@
 -- Clap's walk over all the words, and the parts of the words.
-use Rattle.std.proofs.Common.{◌≡◌, ◌∙◌, ◌++◌, ℕ, Bool, true, false, cond, List, [], ◌∷◌, map, fold, Option, Some, None, codes, IsUtf8, bytes_eq, option_and_then, option_map, refl, sym, ap, subst}
+use Rattle.std.proofs.Common.{◌≡◌, Bool, true, false, List, [], ◌∷◌, map, Option, Some, None, codes, IsUtf8, bytes_eq, option_and_then, refl}
 use Rattle.clap.specs.Lexer.{long_of, short_of}
-use Rattle.clap.specs.Walk.{Held, Row, Walk, Waiting, idle, option, positional, used}
-use Rattle.clap.specs.Faults.{settle_fault, turn_fault, walk_fault}
-use Rattle.clap.specs.Kinds.{Kinds, or_else}
+use Rattle.clap.specs.Walk.{Held, Row, Walk, Waiting, idle, option, positional, used, subcommand_met}
+use Rattle.clap.specs.Faults.{walk_fault}
+use Rattle.clap.specs.Kinds.{or_else}
 use Rattle.pipe_words.specs.Parts.{Audit, End, Level, Long, Look, Part, Plain, Positional, Role, Short, Text, Workers, look_of, role_named, with_part, word_met}
 use Rattle.pipe_words.specs.Parts as parts
 use Rattle.pipe_words.proofs.Looks.{Looks, looks}
-use Rattle.pipe_words.proofs.Rules.{IsFault, IsValued, id_of, rule_by, rules, shape, values_for}
-use Rattle.pipe_words.proofs.Settling.{Agrees, Turns, applied, before, fault_first, fault_now, fault_second, final, held, or_else_assoc, pending, refused, settle_is, settle_unvalued, settled_rows_is, settles, stand, total, turned, used_now, uses_first}
+use Rattle.pipe_words.proofs.Rules.{IsFault, IsValued, id_of}
+use Rattle.pipe_words.proofs.Settling.{Agrees, Turns, applied, before, fault_now, final, held, or_else_assoc, pending, refused, settle_is, settle_unvalued, settled_rows_is, settles, stand, total, turned, used_now, uses_first}
 use Rattle.pipe_words.proofs.Turns.{calm, end_turn, flag_turn, flag_value_refused, late_refused, late_turn, not_positional, option_refused, plain_turn, short_refused, take_turn, unknown_refused, value_missed, value_turn, wait_turn, waits}
 
 -- ---- after `--`
@@ -72,7 +72,7 @@ module _ (word : Text) (words : List Text) (utf8 : IsUtf8 word) (calm_rest : Cal
   after_value Workers h rows Short l = refused (waits Workers rows false) word words (short_refused (option (id_of Workers)) rows _ word l utf8 refl)
   after_value Level h rows Short l = refused (waits Level rows false) word words (short_refused (option (id_of Level)) rows _ word l utf8 refl)
 
-  met_none : (b : Bool) → Rattle.clap.specs.Walk.subcommand_met [] (calm b) word ≡ None
+  met_none : (b : Bool) → subcommand_met [] (calm b) word ≡ None
   met_none true = refl
   met_none false = refl
 

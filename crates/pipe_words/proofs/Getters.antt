@@ -1,5 +1,5 @@
 -- What the getters of clap's matches give, by the rows.
-use Rattle.std.proofs.Common.{◌≡◌, ◌∙◌, Bool, true, false, List, [], ◌∷◌, map, Option, Some, None, unwrap_or, option_map, codes, refl, sym, ap, Bor}
+use Rattle.std.proofs.Common.{◌≡◌, List, [], map, Option, Some, None, unwrap_or, option_map, refl, ap, Bor}
 use Rattle.pipe_words.specs.Parts.{Text}
 
 -- the texts of a slice, or none

@@ -1,5 +1,5 @@
 -- How a word looks to clap.
-use Rattle.std.proofs.Common.{◌≡◌, ◌&&◌, ◌==◌, ◌++◌, ℕ, Bool, true, false, cond, List, [], ◌∷◌, Option, Some, None, option_and_then, bytes_eq, chars, IsUtf8, slice_get, refl, sym, ap, subst, ◌∙◌, eqb-true}
+use Rattle.std.proofs.Common.{◌≡◌, ◌&&◌, ◌==◌, ◌++◌, ℕ, Bool, true, false, cond, [], ◌∷◌, Option, Some, None, option_and_then, bytes_eq, chars, encode_utf8_all, IsUtf8, slice_get, refl, subst, ◌∙◌, eqb-true}
 use Rattle.std.specs.Char.{encode_utf8}
 use Rattle.std.proofs.lemmas.Str.{IsUtf8-past_char, encodes-chars}
 use Rattle.clap.specs.Lexer.{long_of, long_of_rest, short_of, short_of_rest, strip_byte}
@@ -33,7 +33,7 @@ looks (c ∷ cs) = one (c == 45) cs
 has_first : (flags : Text) (x : ℕ) (xs : Text) → flags ≡ x ∷ xs → IsUtf8 flags → (c : ℕ) × (slice_get (chars flags) 0 ≡ Some c)
 has_first flags x xs is utf8 = go (chars flags) (encodes-chars flags utf8)
   where
-    go : (cs : Text) → Rattle.std.specs.Prelude.encode_utf8_all cs ≡ flags → (c : ℕ) × (slice_get cs 0 ≡ Some c)
+    go : (cs : Text) → encode_utf8_all cs ≡ flags → (c : ℕ) × (slice_get cs 0 ≡ Some c)
     go [] e = absurd (cc (e ∙ is))
     go (c ∷ cs) e = (c, refl)
 

@@ -1,12 +1,11 @@
 -- What clap answers, and what the words ask for.
-use Rattle.std.proofs.Common.{◌≡◌, ◌∙◌, ◌++◌, ◌+◌, ◌≤◌, ◌⊎◌, inl, inr, ◌&&◌, ◌||◌, ℕ, Bool, true, false, cond, not, List, [], ◌∷◌, map, length, fold, Option, Some, None, is_some, unwrap_or, option_map, option_and_then, slice_get, bytes_eq, codes, refl, sym, ap, subst, arith, map-id}
+use Rattle.std.proofs.Common.{◌≡◌, ◌∙◌, ◌++◌, ◌≤◌, ◌⊎◌, inl, inr, ◌&&◌, ◌||◌, Bool, true, false, cond, not, List, [], ◌∷◌, map, length, fold, Option, Some, None, is_some, unwrap_or, option_map, option_and_then, slice_get, bytes_eq, codes, refl, sym, ap, subst, arith, map-id}
 use Rattle.std.specs.List.{find, list_any}
-use Rattle.std.specs.Option.{option_map_or}
-use Rattle.clap.specs.Walk.{Row, Rule, Walk, all_of, default_rows, finished, first_of, has_row, idle, nothing_held, one_of, reading_by, row_text, rows_after, settled, walk, with_default}
-use Rattle.clap.specs.Simple.{App, Shape, entered, matches_of, names_of}
+use Rattle.clap.specs.Walk.{Row, Rule, Walk, all_of, default_rows, first_of, has_row, idle, nothing_held, one_of, reading_by, row_text, rows_after, with_default}
+use Rattle.clap.specs.Simple.{App, matches_of, names_of}
 use Rattle.clap.specs.Values.{read_as}
-use Rattle.clap.specs.Faults.{built_fault, check_fault, default_fault, defaults_fault, entered_fault, fault_of, settle_fault, walk_fault}
-use Rattle.clap.specs.Kinds.{Kinds, check_kinds, or_else}
+use Rattle.clap.specs.Faults.{built_fault, check_fault, default_fault, defaults_fault, entered_fault, fault_of}
+use Rattle.clap.specs.Kinds.{Kinds, or_else}
 use Rattle.clap.specs.declared.builder.value_parser.Reading.{Reading}
 use Rattle.clap.specs.declared.builder.value_parser.Reading.TheVariants as reading
 use Rattle.clap.specs.declared.parser.matches.ValueSource.TheVariants.{DefaultValue}
@@ -16,8 +15,8 @@ use Rattle.pipe_words.specs.Parts.{Audit, Level, Part, Positional, Role, Text, W
 use Rattle.pipe_words.specs.Commands.{Asked, asked, asked_by, at_most_one, command_of}
 use Rattle.pipe_words.proofs.Agreeing.{AreUtf8, agrees, clap_parts}
 use Rattle.pipe_words.proofs.Refusals.{command_is, repeated_none}
-use Rattle.pipe_words.proofs.Rows.{Holds, HoldsOf, IsSingle, Reads, all_with_other, all_with_same, as_option, has_all, reads, text_for}
-use Rattle.pipe_words.proofs.Rules.{IsFault, built_is, id_of, rule_by, rules, shape}
+use Rattle.pipe_words.proofs.Rows.{Holds, IsSingle, Reads, all_with_other, all_with_same, as_option, has_all, reads, text_for}
+use Rattle.pipe_words.proofs.Rules.{IsFault, built_is, rule_by, rules, shape}
 use Rattle.pipe_words.proofs.Settling.{Agrees, applied, final, held, or_else_none, stand, total}
 
 -- ---- after the walk

@@ -1,7 +1,7 @@
 -- From clap's clause to the rule.
-use Rattle.std.proofs.Common.{◌≡◌, ◌∙◌, ◌⊎◌, inl, inr, true, List, [], ◌∷◌, map, Option, Some, None, String, Global, string_bytes, refl, sym, ap, subst}
+use Rattle.std.proofs.Common.{◌≡◌, inl, inr, true, List, [], ◌∷◌, map, Option, None, String, Global, string_bytes, refl, sym, subst}
 use Rattle.std.proofs.lemmas.Str.{IsUtf8-string_bytes}
-use Rattle.clap.specs.Walk.{Row, one_of}
+use Rattle.clap.specs.Walk.{Row}
 use Rattle.clap.specs.Simple.{App, is_simple, matches_of}
 use Rattle.clap.specs.Faults.{fault_of, is_simple_and_free}
 use Rattle.clap.specs.Kinds.{HasKind, IsAmong, Kinds}
@@ -11,7 +11,6 @@ use Rattle.clap.specs.declared.error.kind.ErrorKind.TheVariants.{OutOfMemory}
 use Rattle.clap.specs.declared.error.kind.ErrorKind.{ErrorKind}
 use Rattle.pipe_words.specs.App.{parcoll_app}
 use Rattle.pipe_words.specs.Commands.{Asked, command_of}
-use Rattle.pipe_words.specs.Parts.{Text}
 use Rattle.pipe_words.proofs.Agreeing.{AreUtf8}
 use Rattle.pipe_words.proofs.Outcomes.{Ended, Tells, ended}
 use Rattle.pipe_words.proofs.Rules.{IsFault, is_fit}

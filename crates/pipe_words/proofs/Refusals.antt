@@ -1,15 +1,13 @@
 -- Parts that ask for nothing, and the words that clap reads as other parts.
-use Rattle.std.proofs.Common.{◌≡◌, ◌∙◌, ◌++◌, ◌+◌, ◌≤◌, ◌==◌, ◌⊎◌, ◌&&◌, ◌||◌, inl, inr, ℕ, Bool, true, false, cond, not, List, [], ◌∷◌, map, length, Option, Some, None, is_some, option_map, option_and_then, bytes_eq, codes, nat_le, refl, sym, ap, subst, arith, eqb-true}
+use Rattle.std.proofs.Common.{◌≡◌, ◌∙◌, ◌≤◌, ◌==◌, ◌⊎◌, ◌&&◌, ◌||◌, inl, inr, ℕ, Bool, true, false, cond, not, List, [], ◌∷◌, length, Option, Some, None, is_some, option_and_then, bytes_eq, codes, nat_le, refl, sym, ap, subst, arith, eqb-true}
 use Rattle.std.specs.List.{list_any}
-use Rattle.std.specs.Str.{all_ascii_digits}
-use Rattle.std.specs.Str.Parse.{digits_value}
 use Rattle.pipe_words.specs.Parts.{Audit, End, Level, Long, Look, Part, Plain, Positional, Role, Short, Text, Workers, is_role, look_of, option_met, parts_after, role_named, texts_of, with_part, word_met}
 use Rattle.pipe_words.specs.Parts as parts
-use Rattle.pipe_words.specs.Numbers.{number_of}
-use Rattle.pipe_words.specs.Commands.{Asked, asked, asked_by, at_most_one, check_of, command_of, run_of, run_with}
+use Rattle.pipe_words.specs.Numbers.{number_of, number_or}
+use Rattle.pipe_words.specs.Commands.{asked, asked_by, at_most_one, check_of, command_of, run_of, run_with}
 use Rattle.pipe_words.proofs.Agreeing.{clap_parts, value_met}
 use Rattle.pipe_words.proofs.Rules.{IsValued}
-use Rattle.pipe_words.proofs.Rows.{IsOption, IsRepeated, is_itself}
+use Rattle.pipe_words.proofs.Rows.{IsRepeated, is_itself}
 use Rattle.pipe_words.proofs.Turns.{not_positional}
 
 -- ---- an option is given again
@@ -82,7 +80,7 @@ no_level [] workers v audit h = refl
 no_level (mode ∷ names) workers v audit h = go (bytes_eq mode (codes "run")) (bytes_eq mode (codes "check")) names workers
   where
     run : (p : Text) (d w : Option Text) → run_with p d w (Some v) audit ≡ None
-    run p d w = all_none _ (Rattle.pipe_words.specs.Numbers.number_or 4 w) (λ n. rw h refl)
+    run p d w = all_none _ (number_or 4 w) (λ n. rw h refl)
 
     go : (x y : Bool) (ns : List Text) (w : Option Text) → cond x (run_of ns w (Some v) audit) (cond y (check_of ns w (Some v) audit) None) ≡ None
     go true y [] w = refl

@@ -1,8 +1,8 @@
 -- What the rows hold after the uses that some parts stand for.
-use Rattle.std.proofs.Common.{◌≡◌, ◌∙◌, ◌++◌, ◌+◌, ◌≤◌, ℕ, Bool, true, false, cond, not, List, [], ◌∷◌, map, length, ◌||◌, Option, Some, None, codes, is_some, unwrap_or, option_map, option_and_then, slice_get, bytes_eq, refl, sym, ap, subst, append-nil, append_assoc, length-append, arith}
+use Rattle.std.proofs.Common.{◌≡◌, ◌∙◌, ◌++◌, ◌≤◌, Bool, true, false, cond, List, [], ◌∷◌, map, length, ◌||◌, Option, Some, None, codes, is_some, unwrap_or, option_map, bytes_eq, refl, sym, ap, subst, append-nil, append_assoc, length-append, arith}
 use Rattle.std.proofs.lemmas.Slice.Eq.{bytes_eq-Decides}
 use Rattle.std.specs.List.{find}
-use Rattle.clap.specs.Walk.{Row, all_of, at_row, first_of, has_row, more_values, one_of, reading_by, used, with_values, without}
+use Rattle.clap.specs.Walk.{Row, all_of, has_row, more_values, reading_by, used, with_values, without}
 use Rattle.clap.specs.declared.builder.value_parser.Reading.{Reading}
 use Rattle.clap.specs.declared.parser.matches.ValueSource.{ValueSource}
 use Rattle.clap.specs.declared.parser.matches.ValueSource.TheVariants.{CommandLine}

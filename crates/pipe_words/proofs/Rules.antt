@@ -1,9 +1,9 @@
 -- The rules of the built command, and what clap's definitions say of them.
-use Rattle.std.proofs.Common.{◌≡◌, ◌&&◌, ◌||◌, ℕ, Bool, true, false, not, cond, List, [], ◌∷◌, Option, Some, None, option_map, codes, bytes_eq, refl}
-use Rattle.clap.specs.Walk.{Row, Rule, Text, arg_by_id, arg_by_index, arg_by_long, arg_by_short, has_row, most_values, takes_values, takes_several, is_multiple, used, with_values, without}
-use Rattle.clap.specs.Simple.{Shape, built}
+use Rattle.std.proofs.Common.{◌≡◌, ◌&&◌, ◌||◌, ℕ, Bool, true, false, cond, List, [], ◌∷◌, Option, Some, None, option_map, codes, bytes_eq, refl}
+use Rattle.clap.specs.Walk.{Row, Rule, Text, arg_by_id, arg_by_index, arg_by_long, arg_by_short, has_row, most_values, takes_values, takes_several, is_multiple}
+use Rattle.clap.specs.Simple.{Shape, built, new_rule}
 use Rattle.clap.specs.Faults.{is_simple_and_free, use_fault}
-use Rattle.clap.specs.Kinds.{Kinds}
+use Rattle.clap.specs.Kinds.{Kinds, or_else}
 use Rattle.clap.specs.declared.error.kind.ErrorKind.TheVariants as kind
 use Rattle.pipe_words.specs.App.{parcoll_app}
 use Rattle.pipe_words.specs.Parts.{Audit, Level, Positional, Role, Workers, role_named}
@@ -41,7 +41,7 @@ id_of Audit = codes "audit"
 
 abbrev pub or_nothing : Option Rule → Rule
 or_nothing (Some a) = a
-or_nothing None = Rattle.clap.specs.Simple.new_rule []
+or_nothing None = new_rule []
 
 unfoldable pub rule_by : Role → Rule
 rule_by role = or_nothing (arg_by_id (built parcoll_app).top.rules (id_of role))
@@ -101,24 +101,16 @@ repeats role rows = has_row (id_of role) rows
 abbrev pub again_fault : Role → List Row → Kinds
 again_fault role rows = cond (repeats role rows) (kind.ArgumentConflict ∷ []) []
 
+once_only : (b : Bool) → or_else (cond (b && true) (kind.ArgumentConflict ∷ []) []) [] ≡ cond b (kind.ArgumentConflict ∷ []) []
+once_only true = refl
+once_only false = refl
+
 pub use_faults : (role : Role) (text : Text) (rows : List Row) → use_fault false (rule_by role) (values_for role text) rows ≡ again_fault role rows
 unfolding rule_by
 use_faults Positional text rows = refl
-use_faults Workers text rows = go (has_row (codes "workers") rows)
-  where
-    go : (b : Bool) → Rattle.clap.specs.Kinds.or_else (cond (b && true) (kind.ArgumentConflict ∷ []) []) [] ≡ cond b (kind.ArgumentConflict ∷ []) []
-    go true = refl
-    go false = refl
-use_faults Level text rows = go (has_row (codes "level") rows)
-  where
-    go : (b : Bool) → Rattle.clap.specs.Kinds.or_else (cond (b && true) (kind.ArgumentConflict ∷ []) []) [] ≡ cond b (kind.ArgumentConflict ∷ []) []
-    go true = refl
-    go false = refl
-use_faults Audit text rows = go (has_row (codes "audit") rows)
-  where
-    go : (b : Bool) → Rattle.clap.specs.Kinds.or_else (cond (b && true) (kind.ArgumentConflict ∷ []) []) [] ≡ cond b (kind.ArgumentConflict ∷ []) []
-    go true = refl
-    go false = refl
+use_faults Workers text rows = once_only (has_row (codes "workers") rows)
+use_faults Level text rows = once_only (has_row (codes "level") rows)
+use_faults Audit text rows = once_only (has_row (codes "audit") rows)
 
 pub no_values : (role : Role) → (IsValued role) → (rows : List Row) → IsFault (use_fault false (rule_by role) [] rows)
 unfolding rule_by

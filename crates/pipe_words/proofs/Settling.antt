@@ -1,9 +1,10 @@
 -- The parts of the words as uses of clap's arguments, and what is held between two words.
-use Rattle.std.proofs.Common.{◌≡◌, ◌∙◌, ◌++◌, ℕ, Bool, true, false, cond, List, [], ◌∷◌, fold, Option, Some, None, option_and_then, option_map, refl, sym, ap, subst}
-use Rattle.clap.specs.Walk.{Held, Row, Text, Walk, Waiting, idle, option, positional, settled, settled_rows, used, walked}
+use Rattle.std.proofs.Common.{◌≡◌, Bool, true, false, cond, List, [], ◌∷◌, fold, Option, Some, None, option_and_then, refl, sym, subst}
+use Rattle.clap.specs.Walk.{Held, Row, Text, Walk, Waiting, settled, settled_rows, used, walked}
 use Rattle.clap.specs.Faults.{settle_fault, turn_fault, walk_fault}
 use Rattle.clap.specs.Kinds.{Kinds, or_else}
-use Rattle.pipe_words.specs.Parts.{Part, Positional, Role}
+use Rattle.clap.specs.declared.error.kind.ErrorKind.TheVariants as kind
+use Rattle.pipe_words.specs.Parts.{Part, Role}
 use Rattle.pipe_words.proofs.Rules.{IsFault, IsValued, again_fault, by_id, id_of, no_values, repeats, rule_by, rules, shape, use_faults, values_for}
 
 -- the rows after the uses that the parts stand for; None where one repeats what may not be
@@ -101,7 +102,7 @@ pub settles : (p : Option Part) (rows : List Row) → Agrees (fault_now p rows) 
 settles None rows = (refl, refl)
 settles (Some p) rows = go (repeats p.0 rows)
   where
-    go : (b : Bool) → Agrees (cond b (Rattle.clap.specs.declared.error.kind.ErrorKind.TheVariants.ArgumentConflict ∷ []) []) (used_now (Some p) rows) (cond b None (Some (used_now (Some p) rows)))
+    go : (b : Bool) → Agrees (cond b (kind.ArgumentConflict ∷ []) []) (used_now (Some p) rows) (cond b None (Some (used_now (Some p) rows)))
     go true = tt
     go false = (refl, refl)
 
@@ -114,6 +115,6 @@ uses_first (Some p) rows final None after kinds h = fault_second (fault_now (Som
 uses_first (Some p) rows final (Some ps) after kinds h = go (repeats p.0 rows) h
   where
     go : (b : Bool) → Agrees kinds final (applied (after ps) (used_now (Some p) rows))
-        → Agrees (or_else (cond b (Rattle.clap.specs.declared.error.kind.ErrorKind.TheVariants.ArgumentConflict ∷ []) []) kinds) final (cond b None (applied (after ps) (used_now (Some p) rows)))
+        → Agrees (or_else (cond b (kind.ArgumentConflict ∷ []) []) kinds) final (cond b None (applied (after ps) (used_now (Some p) rows)))
     go true h = tt
     go false h = h

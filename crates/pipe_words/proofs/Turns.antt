@@ -1,13 +1,13 @@
 -- One word of clap's walk, by what the word looks like.
-use Rattle.std.proofs.Common.{◌≡◌, ◌∙◌, ◌++◌, ℕ, Bool, true, false, cond, List, [], ◌∷◌, fold, Option, Some, None, codes, IsUtf8, bytes_eq, option_and_then, option_map, refl, sym, ap, subst}
+use Rattle.std.proofs.Common.{◌≡◌, ◌∙◌, Bool, true, false, cond, List, [], ◌∷◌, Option, Some, None, codes, IsUtf8, bytes_eq, refl, ap}
 use Rattle.clap.specs.Lexer.{long_of, short_of}
-use Rattle.clap.specs.Walk.{Held, Row, Walk, Waiting, idle, option, positional, settled, used, walked}
-use Rattle.clap.specs.Faults.{flags_fault, settle_fault, turn_fault, use_fault, walk_fault}
+use Rattle.clap.specs.Walk.{Held, Row, Walk, Waiting, idle, option, positional, settled, used, walked, subcommand_met}
+use Rattle.clap.specs.Faults.{flags_fault, settle_fault, turn_fault, use_fault}
 use Rattle.clap.specs.Kinds.{Kinds, or_else}
-use Rattle.pipe_words.specs.Parts.{Audit, End, Level, Long, Look, Part, Plain, Positional, Role, Short, Text, Workers, role_named}
-use Rattle.pipe_words.proofs.Looks.{Looks, first_flag, looks}
-use Rattle.pipe_words.proofs.Rules.{IsFault, IsValued, by_id, by_index, by_long, again_fault, by_short, flag_takes_none, id_of, ids, many_words, not_last, not_several, one_value, rule_by, rules, shape, takes_value, use_faults, values_for}
-use Rattle.pipe_words.proofs.Settling.{Agrees, Turns, fault_first, fault_now, held, or_else_none, pending, settle_is, settle_unvalued, settled_rows_is, stand, total, final, used_now}
+use Rattle.pipe_words.specs.Parts.{Audit, End, Level, Long, Part, Plain, Positional, Role, Short, Text, Workers, role_named}
+use Rattle.pipe_words.proofs.Looks.{Looks, first_flag}
+use Rattle.pipe_words.proofs.Rules.{IsFault, IsValued, by_id, by_index, by_long, again_fault, by_short, flag_takes_none, id_of, ids, many_words, not_last, not_several, one_value, rule_by, rules, shape, takes_value, use_faults}
+use Rattle.pipe_words.proofs.Settling.{Turns, fault_first, fault_now, held, or_else_none, pending, settle_is, settle_unvalued, settled_rows_is, stand, used_now}
 
 -- no option waits for its value
 abbrev pub calm : Bool → Waiting
@@ -45,18 +45,18 @@ late_turn w rows p word = (
 
 -- a short option is refused, whatever waits
 pub short_refused : (w : Waiting) (rows : List Row) (p : Option (Text × List Text)) (word : Text) → Looks (bytes_eq word dashes) (long_of word) (short_of word) Short → IsUtf8 word
-    → Rattle.clap.specs.Walk.subcommand_met [] w word ≡ None → IsFault (turn_fault shape [] (stand (held rows p) w false) word)
+    → subcommand_met [] w word ≡ None → IsFault (turn_fault shape [] (stand (held rows p) w false) word)
 unfolding flags_fault
 short_refused w rows p word h utf8 none = let first = first_flag word h.2 h.3 h.4 utf8 in rw (none, h.0, h.1, h.4, first.1, by_short) tt
 
 -- ---- options by their names
 
 pub unknown_refused : (w : Waiting) (h : Held) (word name : Text) (value : Option Text) → Looks (bytes_eq word dashes) (long_of word) (short_of word) (Long name value)
-    → role_named name ≡ None → Rattle.clap.specs.Walk.subcommand_met [] w word ≡ None → IsFault (turn_fault shape [] (stand h w false) word)
+    → role_named name ≡ None → subcommand_met [] w word ≡ None → IsFault (turn_fault shape [] (stand h w false) word)
 unknown_refused w h word name value l unknown none = rw (none, l.0, l.1, by_long, unknown) tt
 
 pub flag_value_refused : (w : Waiting) (h : Held) (word name value : Text) → Looks (bytes_eq word dashes) (long_of word) (short_of word) (Long name (Some value))
-    → role_named name ≡ Some Audit → Rattle.clap.specs.Walk.subcommand_met [] w word ≡ None → IsFault (turn_fault shape [] (stand h w false) word)
+    → role_named name ≡ Some Audit → subcommand_met [] w word ≡ None → IsFault (turn_fault shape [] (stand h w false) word)
 flag_value_refused w h word name value l known none = rw (none, l.0, l.1, by_long, known, flag_takes_none) tt
 
 pub flag_turn : (b : Bool) (rows : List Row) (p : Option Part) (word name : Text) → Looks (bytes_eq word dashes) (long_of word) (short_of word) (Long name None)

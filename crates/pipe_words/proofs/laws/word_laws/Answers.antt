@@ -1,6 +1,7 @@
-use Rattle.std.proofs.Common.{◌≡◌, ◌≤◌, ◌&&◌, ◌∙◌, ap, refl, rules, Bool, true, false, cond, List, [], ◌∷◌, ℕ, Option, Some, None, IfSome, codes, map, nat_le, option_map, option_and_then, is_some, bytes_eq, arith, leb-true}
+use Rattle.std.proofs.Common.{◌≡◌, ◌≤◌, ◌&&◌, ap, refl, Bool, true, false, cond, List, [], ◌∷◌, ℕ, Option, Some, None, IfSome, codes, map, nat_le, option_map, option_and_then, is_some, bytes_eq, arith, leb-true, length}
+use Rattle.std.specs.Str.{all_ascii_digits}
 use Rattle.std.specs.Str.Parse.{digits_value}
-use Rattle.pipe_words.specs.Commands.{Asked, IsWithinLimits, asked, asked_by, at_most_one, check_of, command_of, run_of, run_with}
+use Rattle.pipe_words.specs.Commands.{Asked, Run, IsWithinLimits, asked, asked_by, at_most_one, check_of, command_of, run_of, run_with}
 use Rattle.pipe_words.specs.Numbers.{limited, number_of, number_or}
 use Rattle.pipe_words.specs.Parts.{Audit, Level, Part, Positional, Text, Workers, parts_after, positional, texts_of}
 use Rattle.pipe_words.proofs.laws.word_laws.Goals as goal
@@ -16,7 +17,7 @@ within n = go (nat_le 1 n) (nat_le n 64) refl refl
     go false y e f = tt
 
 number_within : (text : Text) → IfSome (number_of text) (λ m. (1 ≤ m) × (m ≤ 64))
-number_within text = go (nat_le (Rattle.std.specs.Prelude.length text) 2 && Rattle.std.specs.Str.all_ascii_digits text)
+number_within text = go (nat_le (length text) 2 && all_ascii_digits text)
   where
     go : (b : Bool) → IfSome (cond b (limited (digits_value 10 text)) None) (λ m. (1 ≤ m) × (m ≤ 64))
     go true = within (digits_value 10 text)
@@ -29,12 +30,12 @@ or_within n low high (Some text) = number_within text
 run_within : (pipe : Text) (table workers level : Option Text) (audit : Bool) → IfSome (run_with pipe table workers level audit) IsWithinLimits
 run_within pipe table workers level audit = go (number_or 4 workers) (or_within 4 (omega arith) (omega arith) workers)
   where
-    both : (n : ℕ) → 1 ≤ n → n ≤ 64 → (o : Option ℕ) → IfSome o (λ m. (1 ≤ m) × (m ≤ 64)) → IfSome (option_map (λ m. Rattle.pipe_words.specs.Commands.Run pipe table n m audit) o) IsWithinLimits
+    both : (n : ℕ) → 1 ≤ n → n ≤ 64 → (o : Option ℕ) → IfSome o (λ m. (1 ≤ m) × (m ≤ 64)) → IfSome (option_map (λ m. Run pipe table n m audit) o) IsWithinLimits
     both n low high None h = tt
     both n low high (Some m) h = (low, high, h.0, h.1)
 
     go : (o : Option ℕ) → IfSome o (λ m. (1 ≤ m) × (m ≤ 64))
-        → IfSome (option_and_then (λ n. option_map (λ m. Rattle.pipe_words.specs.Commands.Run pipe table n m audit) (number_or n level)) o) IsWithinLimits
+        → IfSome (option_and_then (λ n. option_map (λ m. Run pipe table n m audit) (number_or n level)) o) IsWithinLimits
     go None h = tt
     go (Some n) h = both n h.0 h.1 (number_or n level) (or_within n h.0 h.1 level)
 

@@ -1,6 +1,5 @@
-use Rattle.std.proofs.Common.{◌≡◌, ◌∙◌, ap, sym, refl, Bool, true, false, codes, map, option_map, unwrap_or, List, [], Bor, Option, ℕ}
+use Rattle.std.proofs.Common.{◌≡◌, ◌∙◌, ap, refl, Bool, true, false, codes, map, unwrap_or, List, [], Bor, Option, ℕ}
 use Rattle.clap.specs.Matches.{found_of}
-use Rattle.clap.specs.Walk.{all_of, first_of, one_of, rows_of}
 use Rattle.clap.proofs.WalkLemmas.{first_value-rows, one_text-rows, raw_values-rows}
 use Rattle.std.specs.Prelude.{Some}
 use Rattle.pipe_words.specs.Commands.{asked}
