@@ -1,7 +1,7 @@
 -- Clap's walk over all the words, and the parts of the words.
 use Rattle.std.proofs.Common.{◌≡◌, Bool, true, false, List, [], ◌∷◌, map, Option, Some, None, codes, IsUtf8, bytes_eq, option_and_then, refl}
 use Rattle.clap.specs.Lexer.{long_of, short_of}
-use Rattle.clap.specs.Walk.{Held, Row, Walk, Waiting, idle, option, positional, used, subcommand_met}
+use Rattle.clap.specs.Walk.{Row, Waiting, idle, option, positional, subcommand_met}
 use Rattle.clap.specs.Faults.{walk_fault}
 use Rattle.clap.specs.Kinds.{or_else}
 use Rattle.pipe_words.specs.Parts.{Audit, End, Level, Long, Look, Part, Plain, Positional, Role, Short, Text, Workers, look_of, role_named, with_part, word_met}

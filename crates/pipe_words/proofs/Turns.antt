@@ -1,7 +1,7 @@
 -- One word of clap's walk, by what the word looks like.
 use Rattle.std.proofs.Common.{◌≡◌, ◌∙◌, Bool, true, false, cond, List, [], ◌∷◌, Option, Some, None, codes, IsUtf8, bytes_eq, refl, ap}
 use Rattle.clap.specs.Lexer.{long_of, short_of}
-use Rattle.clap.specs.Walk.{Held, Row, Walk, Waiting, idle, option, positional, settled, used, walked, subcommand_met}
+use Rattle.clap.specs.Walk.{Held, Row, Walk, Waiting, idle, option, positional, used, walked, subcommand_met}
 use Rattle.clap.specs.Faults.{flags_fault, settle_fault, turn_fault, use_fault}
 use Rattle.clap.specs.Kinds.{Kinds, or_else}
 use Rattle.pipe_words.specs.Parts.{Audit, End, Level, Long, Part, Plain, Positional, Role, Short, Text, Workers, role_named}

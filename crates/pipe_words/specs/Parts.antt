@@ -22,15 +22,17 @@ pub data Look : Type 0 where
   Long : Text → Option Text → Look
   Short : Look
 
+-- `=`
 abbrev pub is_equals : ℕ → Bool
 is_equals c = c == 61
 
--- the value of an option stands after the first `=`
+-- what follows `--`: nothing, or a name with the value that stands after the first `=`
 abbrev pub after_two_dashes : Text → Look
 after_two_dashes [] = End
 after_two_dashes (c ∷ cs) = Long (before_first is_equals (c ∷ cs))
     (if list_any is_equals (c ∷ cs) then Some (after_first is_equals (c ∷ cs)) else None)
 
+-- what follows a first `-`, which is 45; `-` alone is a positional
 abbrev pub after_dash : Text → Look
 after_dash [] = Plain
 after_dash (c ∷ cs) = if c == 45 then after_two_dashes cs else Short

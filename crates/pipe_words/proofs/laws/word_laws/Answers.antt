@@ -1,7 +1,7 @@
 use Rattle.std.proofs.Common.{◌≡◌, ◌≤◌, ◌&&◌, ap, refl, Bool, true, false, cond, List, [], ◌∷◌, ℕ, Option, Some, None, IfSome, codes, map, nat_le, option_map, option_and_then, is_some, bytes_eq, arith, leb-true, length}
 use Rattle.std.specs.Str.{all_ascii_digits}
 use Rattle.std.specs.Str.Parse.{digits_value}
-use Rattle.pipe_words.specs.Commands.{Asked, Run, IsWithinLimits, asked, asked_by, at_most_one, check_of, command_of, run_of, run_with}
+use Rattle.pipe_words.specs.Commands.{Asked, Run, IsWithinLimits, asked, asked_by, at_most_one, check_of, run_of, run_with}
 use Rattle.pipe_words.specs.Numbers.{limited, number_of, number_or}
 use Rattle.pipe_words.specs.Parts.{Audit, Level, Part, Positional, Text, Workers, parts_after, positional, texts_of}
 use Rattle.pipe_words.proofs.laws.word_laws.Goals as goal
