@@ -1,0 +1,5 @@
+pub mod Picked
+pub mod Made
+pub mod Lengths
+pub mod Ranging
+pub mod Cut

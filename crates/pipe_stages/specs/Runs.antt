@@ -33,3 +33,8 @@ ran (tried.Fault fault) audit = Err (stops.Fault fault)
 abbrev pub made_run : Yield (Vec Row) → List Leaf → Ran
 made_run (yielded.All rows) audit = Ok (Made rows, Some audit)
 made_run (yielded.Fault at kind) audit = Err (stops.Fault (record { at = at; kind = kind }))
+
+-- the same of the rows that a test chose, or its fault
+abbrev pub collected_run : Tried (Yield (Vec Row)) → List Leaf → Ran
+collected_run (tried.Got all) audit = made_run all audit
+collected_run (tried.Fault fault) audit = Err (stops.Fault fault)

@@ -88,14 +88,18 @@ all_made at [] = Ok []
 all_made at (made.Value row ∷ rest) = led_by row (all_made (at + 1) rest)
 all_made at (made.Fault kind ∷ rest) = Err (Fault (record { at = at; kind = kind }))
 
--- the rows of some expressions' values, or the fault of the first row that has one
-abbrev pub mapped : List Column → List Field → List Row → Answer
-mapped cs fields rows = all_made 0 (map (row_made cs (trees fields)) rows)
+-- what is made of each row, or the fault of the first row that has one
+abbrev pub each_made : (Row → Made Row) → List Row → Answer
+each_made f rows = all_made 0 (map f rows)
 
--- what a step makes of an answer before it
-abbrev pub then_mapped : List Column → List Field → Answer → Answer
-then_mapped cs fields (Ok rows) = mapped cs fields rows
-then_mapped cs fields (Err stop) = Err stop
+-- what is made of the rows of an answer
+abbrev pub then_made : (Row → Made Row) → Answer → Answer
+then_made f (Ok rows) = each_made f rows
+then_made f (Err stop) = Err stop
+
+-- the row of some expressions' values
+abbrev pub made_by : List Column → List Field → Row → Made Row
+made_by cs fields = row_made cs (trees fields)
 
 -- a row with one value more, at its end
 abbrev pub with_last : Row → Value → Row
@@ -128,8 +132,8 @@ at_most rows = cond (nat_lt 4194304 (length rows)) (Err TooMany) (Ok rows)
 abbrev pub after : List Column → Middle → List Row → Answer
 after cs (x.Filter e) rows = filtered cs e rows
 after cs (x.FilterNot e) rows = refused cs e rows
-after cs (x.Map fields) rows = mapped cs fields rows
-after cs (x.Collect fields e) rows = then_mapped cs fields (filtered cs e rows)
+after cs (x.Map fields) rows = each_made (made_by cs fields) rows
+after cs (x.Collect fields e) rows = then_made (made_by cs fields) (filtered cs e rows)
 after cs (x.FlatMap name sep) rows = at_most (flat_map (split_at_place (place_named cs name) sep) rows)
 after cs (x.Take n) rows = Ok (take (place n) rows)
 after cs (x.Drop n) rows = Ok (drop (place n) rows)

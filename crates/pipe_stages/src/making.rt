@@ -3,7 +3,7 @@ ghost use Rattle.std.specs.Prelude.{◌≡◌, ◌≢◌, ◌≤◌, length, map
 ghost use Rattle.par_rows.specs.declared.value.Value.TheVariants.{Int as IntValue};
 ghost use Rattle.par_task.specs.Marking.{no_flag, no_test};
 ghost use Rattle.par_jobs.specs.Runs.{untested};
-ghost use Rattle.par_splitter.specs.Range.{IsRangeCount, stepped};
+ghost use Rattle.par_splitter.specs.Range.{IsReached};
 ghost use Rattle.pipe_checks.specs.Kinds.{fits};
 ghost use Rattle.pipe_checks.specs.Uses.{fields_pass};
 ghost use Rattle.pipe_checks.specs.declared.uses.Want.TheVariants.{Truth as TruthWanted};
@@ -13,8 +13,8 @@ ghost use Rattle.pipe_eval.specs.Answers.{verdict_on};
 ghost use Rattle.pipe_stages.specs.Audits.{IsRun};
 ghost use Rattle.pipe_stages.specs.Ranges.{AreFirst};
 ghost use Rattle.pipe_stages.specs.Rows.{pointed};
-ghost use Rattle.pipe_stages.specs.Runs.{Gives, made_run};
-ghost use Rattle.pipe_stages.specs.Stages.{filtered, indexed, mapped, ranged, then_mapped, with_last};
+ghost use Rattle.pipe_stages.specs.Runs.{Gives, collected_run, made_run};
+ghost use Rattle.pipe_stages.specs.Stages.{each_made, filtered, indexed, made_by, ranged, then_made, with_last};
 
 use crate::picking::{Ran, Source};
 use crate::picks::CopySplitter;
@@ -45,6 +45,16 @@ fn made<'a>(all: Yield<Vec<Row>>, audit: Audit) -> Result<Ran<'a>, StepStop>
     }
 }
 
+// The same of the rows that a test chose, or its fault.
+fn collected<'a>(kept: Tried<Yield<Vec<Row>>>, audit: Audit) -> Result<Ran<'a>, StepStop>
+    ensures { result ≡ collected_run kept audit }
+{
+    match kept {
+        Tried::Got(all) => made(all, audit),
+        Tried::Fault(fault) => Err(StepStop::Fault(fault)),
+    }
+}
+
 /// The row of each row's values.
 pub(crate) fn map<'a, G: Gate>(
     alloc: Global,
@@ -57,7 +67,7 @@ pub(crate) fn map<'a, G: Gate>(
     requires kinds { fields_pass (fits schema.now.columns.items) (map named_view fields.now) ≡ true }
     requires small { length rows.now ≤ 4194304 }
     requires level { (1 ≤ level) × (level ≤ 64) }
-    ensures { Gives (mapped schema.now.columns.items (map named_view fields.now) (pointed rows.now)) (IsRun no_test untested (pointed rows.now) level) result }
+    ensures { Gives (each_made (made_by schema.now.columns.items (map named_view fields.now)) (pointed rows.now)) (IsRun no_test untested (pointed rows.now) level) result }
 {
     let maker = Maker::bind(alloc, fields, schema)?;
     let source = CopySplitter::new(rows);
@@ -81,7 +91,7 @@ pub(crate) fn collect<'a, G: Gate>(
     requires kind { fits schema.now.columns.items TruthWanted (view e.now) ≡ true }
     requires small { length rows.now ≤ 4194304 }
     requires level { (1 ≤ level) × (level ≤ 64) }
-    ensures { Gives (then_mapped schema.now.columns.items (map named_view fields.now) (filtered schema.now.columns.items (view e.now) (pointed rows.now))) (IsRun no_flag (verdict_on schema.now.columns.items (view e.now)) (pointed rows.now) level) result }
+    ensures { Gives (then_made (made_by schema.now.columns.items (map named_view fields.now)) (filtered schema.now.columns.items (view e.now) (pointed rows.now))) (IsRun no_flag (verdict_on schema.now.columns.items (view e.now)) (pointed rows.now) level) result }
 {
     let test = Condition::bind(alloc, e, schema)?;
     let maker = Maker::bind(alloc, fields, schema)?;
@@ -89,10 +99,7 @@ pub(crate) fn collect<'a, G: Gate>(
     let (kept, audit) = collect_alone::<Source<'_, 'a>, Makes, G, Condition, Maker>(
         alloc, source, &test, &maker, level, gate,
     )?;
-    match kept {
-        Tried::Got(all) => made(all, audit),
-        Tried::Fault(fault) => Err(StepStop::Fault(fault)),
-    }
+    collected(kept, audit)
 }
 
 /// A row with a number as one value more, at its end.
@@ -144,6 +151,13 @@ pub(crate) fn zip_with_index<'a, G: Gate>(
     Ok((Stepped::Made(all), Some(audit)))
 }
 
+// The number `k` steps on from `a`, where that is one of 64 bits.
+fn steps_on(a: i64, k: u32, c: i64) -> i64
+    ensures { IsReached a c k result }
+{
+    a.wrapping_add(i64::from(k).wrapping_mul(c))
+}
+
 // The first `n` numbers of `a until b by c`, or all where there are fewer.
 fn first_numbers(a: i64, b: i64, c: i64, n: u32) -> RangeSplitter
     requires step { c ≢ pos 0 }
@@ -151,9 +165,7 @@ fn first_numbers(a: i64, b: i64, c: i64, n: u32) -> RangeSplitter
     ensures { AreFirst a b c n (⟦<RangeSplitter as Splitter>⟧.items result) }
 {
     if range_count(a, b, c) > u64::from(n) {
-        // It is a number of the range, so that it doesn't wrap.
-        let end = a.wrapping_add(i64::from(n).wrapping_mul(c));
-        RangeSplitter::new(a, end, c)
+        RangeSplitter::new(a, steps_on(a, n, c), c)
     } else {
         RangeSplitter::new(a, b, c)
     }

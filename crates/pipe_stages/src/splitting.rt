@@ -26,7 +26,7 @@ use std::alloc::Global;
 
 // The place of the first column of a name, or how many columns there are.
 fn place_named(columns: &[Column], name: &Words) -> usize
-    ensures { result ≡ place_named columns.now name.now }
+    ensures place { result ≡ place_named columns.now name.now }
     ensures within { result ≤ length columns.now }
 {
     match columns {
