@@ -49,7 +49,7 @@ impl<'a> Mapper<&'a Row, &'a Row> for Itself {
 
 // What a test picked, or the fault in its place.
 fn picked<'a>(tried: Tried<Vec<&'a Row>>, audit: Audit) -> Result<Ran<'a>, StepStop>
-    ensures { result ≡ ran tried audit }
+    ensures { result ≡ ran tried.entry audit }
 {
     match tried {
         Tried::Got(rows) => Ok((Stepped::Picked(rows), Some(audit))),

@@ -83,6 +83,7 @@ fn with_text(alloc: Global, row: &Row, at: usize, text: &str) -> Result<Row, Mem
 }
 
 /// A row for each piece of the text at a place.
+#[derive(Drop)]
 struct Splitting<'s> {
     at: usize,
     separator: &'s Words,
