@@ -1,5 +1,5 @@
 //! Steps that make a row of each row.
-ghost use Rattle.std.specs.Prelude.{◌≡◌, ◌≢◌, ◌≤◌, length, map, true, Ok, IfOk, pos};
+ghost use Rattle.std.specs.Prelude.{◌≡◌, ◌≢◌, ◌≤◌, length, map, true, ◌++◌, Ok, IfOk, OnOk, pos};
 ghost use Rattle.par_rows.specs.declared.value.Value.TheVariants.{Int as IntValue};
 ghost use Rattle.par_task.specs.Marking.{no_flag, no_test};
 ghost use Rattle.par_jobs.specs.Runs.{untested};
@@ -116,15 +116,27 @@ impl<'a> Mapper<(&'a Row, i64), Row> for WithNumber {
     }
 }
 
+/// Adds copies of values at the end. Where memory is wanting, some of them are added.
+pub(crate) fn copy_values(
+    alloc: Global,
+    values: &mut Values,
+    source: &[Value],
+) -> Result<(), Memory>
+    ensures { OnOk result (values.new ≡ values.old ++ source.now) }
+{
+    for value in source {
+        values.push(value.copy(alloc)?)?;
+    }
+    Ok(())
+}
+
 // The row with a number as one value more, at its end. Takes memory for just its values and their texts.
 fn with_number(alloc: Global, row: &Row, number: i64) -> Result<Row, Memory>
     ensures { IfOk result (λ made. made ≡ with_last row.now (IntValue number)) }
 {
     let source = row.values.as_slice();
     let mut values = Values::with_room(alloc, source.len().saturating_add(1))?;
-    for value in source {
-        values.push(value.copy(alloc)?)?;
-    }
+    copy_values(alloc, &mut values, source)?;
     values.push(Value::Int(number))?;
     Ok(Row { values })
 }

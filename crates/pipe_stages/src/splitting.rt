@@ -13,13 +13,14 @@ ghost use Rattle.pipe_stages.specs.Rows.{pointed};
 ghost use Rattle.pipe_stages.specs.Runs.{Gives};
 ghost use Rattle.pipe_stages.specs.Stages.{at_most, split_at_place};
 
+use crate::making::copy_values;
 use crate::picking::{Ran, Source};
 use crate::picks::CopySplitter;
 use crate::stepped::Stepped;
 use crate::stop::StepStop;
 use par_combiner::ArrayCombiner;
 use par_edge::Gate;
-use par_laws::{Keep, Mapper, Memory, Words};
+use par_laws::{Mapper, Memory, Words};
 use par_rows::{Column, Row, Schema, Value, Values};
 use par_transform::flat_map_alone;
 use std::alloc::Global;
@@ -72,13 +73,13 @@ fn with_text(alloc: Global, row: &Row, at: usize, text: &str) -> Result<Row, Mem
 {
     let source = row.values.as_slice();
     let mut values = Values::with_room(alloc, source.len())?;
-    for (place, value) in source.iter().enumerate() {
-        if place == at {
-            values.push(Value::Text(Words::from_text(alloc, text)?))?;
-        } else {
-            values.push(value.copy(alloc)?)?;
-        }
-    }
+    let (before, rest) = source.split_at(at.min(source.len()));
+    copy_values(alloc, &mut values, before)?;
+    let [_, after @ ..] = rest else {
+        return Ok(Row { values });
+    };
+    values.push(Value::Text(Words::from_text(alloc, text)?))?;
+    copy_values(alloc, &mut values, after)?;
     Ok(Row { values })
 }
 
@@ -96,10 +97,10 @@ impl<'s, 'a> Mapper<&'a Row, Vec<Row>> for Splitting<'s> {
     ghost mapped = { λ s row. split_at_place s.at s.separator.now row };
 
     fn map(&self, alloc: Global, item: &&'a Row) -> Result<Vec<Row>, Memory> {
-        let pieces = pieces(alloc, text_at(item, self.at), self.separator.as_str())?;
-        let mut rows = Vec::with_capacity(alloc, pieces.len())?;
-        for piece in pieces.as_slice() {
-            rows.push(with_text(alloc, item, self.at, piece)?)?;
+        let parts = pieces(alloc, text_at(item, self.at), self.separator.as_str())?;
+        let mut rows = Vec::with_capacity(alloc, parts.len())?;
+        for part in &parts {
+            rows.push(with_text(alloc, item, self.at, part)?)?;
         }
         Ok(rows)
     }
