@@ -3,3 +3,4 @@ pub mod Made
 pub mod Lengths
 pub mod Ranging
 pub mod Cut
+pub mod Flat
