@@ -1,11 +1,16 @@
 -- What a run that makes several rows of each row gives, and a row with another value at a place.
-use Rattle.std.proofs.Common.{◌≡◌, ℕ, ◌<◌, ◌≤◌, ◌-◌, take, drop, append_assoc, ltb, cond, min, List, [], ◌∷◌, ◌++◌, length, set, map, Option, Ok, Err, Some, ap, sym, ◌∙◌, subst, append-nil, length-append, arith}
+use Rattle.std.proofs.Common.{◌≡◌, ℕ, ◌<◌, ◌≤◌, ◌-◌, take, drop, append_assoc, ltb, cond, min, List, [], ◌∷◌, ◌++◌, length, set, map, Option, Ok, Err, Some, refl, ap, sym, ◌∙◌, subst, append-nil, length-append, arith}
 use Rattle.std.specs.Prelude.{IsErrAnd}
 use Rattle.std.specs.List.{flat_map}
 use Rattle.std.specs.Global.{Vec}
 use Rattle.std.proofs.lemmas.Bool.{le-ltb, lt-ltb}
 use Rattle.std.proofs.lemmas.List.{map-id, set_at, set_past, take_all}
+use Rattle.std.specs.Prelude.{slice_get}
+use Rattle.std.specs.Borrow.{Bor}
+use Rattle.std.specs.Str.{chars}
 use Rattle.par_rows.specs.declared.row.Row.{Row}
+use Rattle.par_rows.specs.declared.value.Value.TheVariants.{Text}
+use Rattle.pipe_eval.specs.Answers.{row_of, text_held}
 use Rattle.par_task.specs.Marking.{no_test}
 use Rattle.par_task.specs.declared.audit.Leaf.{Leaf}
 use Rattle.par_jobs.specs.Runs.{IsRunAlone, untested}
@@ -13,8 +18,9 @@ use Rattle.par_transform.specs.TooMany.{IsStop}
 use Rattle.par_transform.specs.declared.stop.FlatStop.{FlatStop}
 use Rattle.par_transform.specs.declared.stop.FlatStop.TheVariants as flats
 use Rattle.pipe_stages.specs.Audits.{IsRun}
+use Rattle.pipe_stages.specs.Pieces.{pieces}
 use Rattle.pipe_stages.specs.Runs.{Gives, Ran}
-use Rattle.pipe_stages.specs.Stages.{Answer, at_most}
+use Rattle.pipe_stages.specs.Stages.{Answer, at_most, split_at_place}
 use Rattle.pipe_stages.specs.Stops.{StopsAs, of_flat}
 use Rattle.pipe_stages.specs.declared.stepped.Stepped.TheVariants.{Made}
 use Rattle.pipe_stages.specs.declared.stop.StepStop.{StepStop}
@@ -74,3 +80,15 @@ joined xs before rest v0 v1 v2 v3 at y parts count some e0 e1 e2 e3 =
 pub handed_on : (wanted : Answer) (audited : Option (List Leaf) → Type 0) (r : Ran) (stop : StepStop) → IsErrAnd r (λ s. s ≡ stop) → StopsAs wanted stop → Gives wanted audited r
 handed_on wanted audited (Ok a) stop h p = absurd h
 handed_on wanted audited (Err s) stop h p = subst (StopsAs wanted) (sym h) p
+
+each_placed : (f : List ℕ → Row) (parts : List (Bor (List ℕ))) → map (λ p. f (chars p.now)) parts ≡ map f (map (λ p. chars p.now) parts)
+each_placed f [] = refl
+each_placed f (part ∷ parts) = ap (λ l. f (chars part.now) ∷ l) (each_placed f parts)
+
+-- a row for each piece of the text at that place
+pub with_pieces :
+    (at : ℕ) (row : Row) (sep separator text : List ℕ) (parts : List (Bor (List ℕ))) → map (λ p. chars p.now) parts ≡ pieces separator text → separator ≡ sep → text ≡ text_held (slice_get row.values at) →
+    map (λ p. row_of (set row.values at (Text (chars p.now)))) parts ≡ split_at_place at sep row
+with_pieces at row sep separator text parts cut same held =
+    let placed : List ℕ → Row = λ piece. row_of (set row.values at (Text piece)) in
+    each_placed placed parts ∙ ap (map placed) (cut ∙ (λ k. pieces (same k) (held k)))
