@@ -26,10 +26,10 @@ use Rattle.pipe_stages.specs.declared.stepped.Stepped.TheVariants.{Made}
 use Rattle.pipe_stages.specs.declared.stop.StepStop.{StepStop}
 use Rattle.pipe_stages.specs.declared.stop.StepStop.TheVariants.{TooMany}
 
-few_rows : (rows : List Row) → length rows ≤ 4194304 → at_most rows ≡ Ok rows
+pub few_rows : (rows : List Row) → length rows ≤ 4194304 → at_most rows ≡ Ok rows
 few_rows rows few = ap (λ t. cond t (Err TooMany) (Ok rows)) (le-ltb 4194304 (length rows) few)
 
-many_rows : (rows : List Row) → 4194304 < length rows → at_most rows ≡ Err TooMany
+pub many_rows : (rows : List Row) → 4194304 < length rows → at_most rows ≡ Err TooMany
 many_rows rows many = ap (λ t. cond t (Err TooMany) (Ok rows)) (lt-ltb 4194304 (length rows) many)
 
 pub flat_gives :

@@ -4,3 +4,5 @@ pub mod Lengths
 pub mod Ranging
 pub mod Cut
 pub mod Flat
+pub mod Few
+pub mod Sound

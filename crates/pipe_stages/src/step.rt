@@ -1,14 +1,15 @@
 //! One step.
 
-ghost use Rattle.std.specs.Prelude.{◌≡◌, ◌≤◌, length, true, IfOk, IfErr};
+ghost use Rattle.std.specs.Prelude.{◌≡◌, ◌≤◌, length, true, Ok, IfOk, IfErr};
 ghost use Rattle.pipe_steps.specs.Said.{middle_view};
 ghost use Rattle.pipe_stages.specs.Audits.{IsAuditOf};
 ghost use Rattle.pipe_stages.specs.Rows.{listed, pointed};
+ghost use Rattle.pipe_stages.specs.Runs.{Gives};
 ghost use Rattle.pipe_stages.specs.Stages.{after, is_built, is_sound};
 ghost use Rattle.pipe_stages.specs.Stops.{StopsAs};
 
 use crate::making::{collect, map, zip_range, zip_with_index};
-use crate::picking;
+use crate::picking::{self, Ran};
 use crate::splitting::flat_map;
 use crate::stepped::Stepped;
 use crate::stop::StepStop;
@@ -55,6 +56,24 @@ pub fn run_step<'a, G: Gate + Sync>(
     ensures small { IfOk result (λ r. length (listed r.0) ≤ 4194304) }
     ensures stop { IfErr result (StopsAs (after schema.now.columns.items (middle_view step.now) (pointed rows.now))) }
     ensures audit { IfOk result (λ r. IsAuditOf schema.now.columns.items (middle_view step.now) (pointed rows.now) level r.1) }
+{
+    call(alloc, step, schema, rows, level, gate)
+}
+
+// The call of each step.
+fn call<'a, G: Gate>(
+    alloc: Global,
+    step: &Step,
+    schema: &Schema,
+    rows: &[&'a Row],
+    level: u32,
+    gate: &G,
+) -> Result<Ran<'a>, StepStop>
+    requires built { is_built (middle_view step.now) ≡ true }
+    requires sound { is_sound schema.now.columns.items (middle_view step.now) ≡ true }
+    requires small { length rows.now ≤ 4194304 }
+    requires level { (1 ≤ level) × (level ≤ 64) }
+    ensures { Gives (after schema.now.columns.items (middle_view step.now) (pointed rows.now)) (IsAuditOf schema.now.columns.items (middle_view step.now) (pointed rows.now) level) result }
 {
     match step {
         Step::Filter(e) => picking::filter(alloc, e, schema, rows, level, gate),
