@@ -1,15 +1,14 @@
 -- No step gives more rows than a collection has.
-use Rattle.std.proofs.Common.{◌≡◌, ℕ, ◌+◌, ◌-◌, ◌≤◌, ◌<◌, min, inl, inr, true, false, Bool, not, cond, suc, List, [], ◌∷◌, length, map, reverse, take, drop, ℤ, pos, ◌+ℤ◌, Option, Some, None, Ok, Err, IfOk, refl, ap, sym, ◌∙◌, subst, arith}
-use Rattle.std.specs.Prelude.{IfErr, slice_range}
-use Rattle.std.specs.List.{enumerate_from, filter, flat_map, prefix_len, take_while}
+use Rattle.std.proofs.Common.{◌≡◌, ℕ, ◌+◌, ◌-◌, ◌≤◌, inl, inr, true, false, Bool, not, cond, suc, List, [], ◌∷◌, length, map, drop, ℤ, ◌+ℤ◌, Option, Some, None, Ok, Err, IfOk, refl, ap, sym, ◌∙◌, subst, arith}
+use Rattle.std.specs.Prelude.{IfErr}
+use Rattle.std.specs.List.{enumerate_from, filter, flat_map, prefix_len}
 use Rattle.std.proofs.lemmas.Bool.{cases_lt}
 use Rattle.std.proofs.lemmas.List.Sums.{length-filter, count_by-le-length}
 use Rattle.std.proofs.lemmas.List.{length-drop, length-map, length-reverse, length-take}
 use Rattle.par_laws.specs.declared.guard.Made.{Made}
 use Rattle.par_laws.specs.declared.guard.Made.TheVariants as made
 use Rattle.par_laws.specs.declared.tried.FaultAt.{FaultAt}
-use Rattle.par_lists.specs.Choices.{filter_not}
-use Rattle.par_lists.specs.Cuts.{drop_while, place}
+use Rattle.par_lists.specs.Cuts.{place}
 use Rattle.par_rows.specs.declared.schema.Column.{Column}
 use Rattle.par_rows.specs.declared.row.Row.{Row}
 use Rattle.par_rows.specs.declared.value.Value.TheVariants as v

@@ -1,5 +1,5 @@
 -- What a run that makes several rows of each row gives, and a row with another value at a place.
-use Rattle.std.proofs.Common.{◌≡◌, ℕ, ◌<◌, ◌≤◌, ◌-◌, take, drop, append_assoc, ltb, cond, min, List, [], ◌∷◌, ◌++◌, length, set, map, Option, Ok, Err, Some, refl, ap, sym, ◌∙◌, subst, append-nil, length-append, arith}
+use Rattle.std.proofs.Common.{◌≡◌, ℕ, ◌<◌, ◌≤◌, ◌-◌, take, drop, append_assoc, cond, min, List, [], ◌∷◌, ◌++◌, length, set, map, Option, Ok, Err, Some, refl, ap, sym, ◌∙◌, subst, append-nil, length-append, arith}
 use Rattle.std.specs.Prelude.{IsErrAnd}
 use Rattle.std.specs.List.{flat_map}
 use Rattle.std.specs.Global.{Vec}

@@ -1,5 +1,5 @@
 -- What a sound step promises of its parts.
-use Rattle.std.proofs.Common.{◌≡◌, ◌≢◌, ◌&&◌, not, true, false, Bool, ℕ, zero, suc, ℤ, pos, negsuc, List, [], ◌∷◌, length, refl, ap, sym, ◌∙◌}
+use Rattle.std.proofs.Common.{◌≡◌, ◌≢◌, ◌&&◌, not, true, false, Bool, ℕ, ℤ, pos, List, [], length, refl, ap, sym, ◌∙◌}
 use Rattle.std.specs.Prelude.{◌==◌, encode_utf8_all}
 use Rattle.std.proofs.lemmas.Bool.{false≢true}
 use Rattle.pipe_checks.specs.Kinds.{is_zero}

@@ -1,5 +1,5 @@
 -- The rows after each step, or the one fault that the step has.
-use Rattle.std.specs.Prelude.{◌==◌, ◌+◌, ◌-◌, ◌&&◌, not, nat_lt, int_lt, ◌+ℤ◌, ℕ, zero, suc, ℤ, pos, Bool, true, false, cond, List, [], ◌∷◌, ◌++◌, length, map, reverse, take, drop, take_while, set, slice_get, slice_range, Option, Some, None, Result, Ok, Err}
+use Rattle.std.specs.Prelude.{◌+◌, ◌&&◌, nat_lt, int_lt, ◌+ℤ◌, ℕ, ℤ, pos, Bool, true, false, cond, List, [], ◌∷◌, ◌++◌, length, map, reverse, take, drop, take_while, set, slice_get, slice_range, Option, Some, None, Result, Ok, Err}
 use Rattle.std.specs.List.{filter, flat_map}
 use Rattle.par_laws.specs.declared.guard.Made.{Made}
 use Rattle.par_laws.specs.declared.guard.Made.TheVariants as made

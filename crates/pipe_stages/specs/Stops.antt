@@ -1,5 +1,5 @@
 -- Why a step stops.
-use Rattle.std.specs.Prelude.{◌≡◌, List, Result, Ok, Err}
+use Rattle.std.specs.Prelude.{◌≡◌, List, Result, Err}
 use Rattle.par_rows.specs.declared.row.Row.{Row}
 use Rattle.par_transform.specs.declared.stop.FlatStop.{FlatStop}
 use Rattle.par_transform.specs.declared.stop.FlatStop.TheVariants as flats

@@ -1,4 +1,4 @@
-use Rattle.std.proofs.Common.{◌≡◌, map, sym, subst}
+use Rattle.std.proofs.Common.{map, sym, subst}
 use Rattle.par_task.specs.Marking.{no_flag}
 use Rattle.pipe_expr.specs.Grammar.{view}
 use Rattle.pipe_steps.specs.Said.{named_view}

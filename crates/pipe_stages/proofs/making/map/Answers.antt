@@ -1,4 +1,4 @@
-use Rattle.std.proofs.Common.{◌≡◌, map, sym, subst}
+use Rattle.std.proofs.Common.{map, sym, subst}
 use Rattle.par_task.specs.Marking.{no_test}
 use Rattle.par_jobs.specs.Runs.{untested}
 use Rattle.pipe_steps.specs.Said.{named_view}

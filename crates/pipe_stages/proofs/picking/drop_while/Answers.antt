@@ -1,4 +1,4 @@
-use Rattle.std.proofs.Common.{◌≡◌, map, sym, subst}
+use Rattle.std.proofs.Common.{map, sym, subst}
 use Rattle.par_laws.specs.Verdict.{contrary}
 use Rattle.par_lists.specs.Cuts.{drop_while}
 use Rattle.par_task.specs.Marking.{low_flag, passes}

@@ -1,4 +1,4 @@
-use Rattle.std.proofs.Common.{◌≡◌, map, sym, subst}
+use Rattle.std.proofs.Common.{map, sym, subst}
 use Rattle.std.specs.List.{filter}
 use Rattle.par_task.specs.Marking.{no_flag, passes}
 use Rattle.par_jobs.specs.Faults.{fault_of}

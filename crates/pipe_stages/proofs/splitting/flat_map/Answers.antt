@@ -1,4 +1,4 @@
-use Rattle.std.proofs.Common.{◌≡◌, Ok, Err, Some, ap, sym, ◌∙◌, subst}
+use Rattle.std.proofs.Common.{◌≡◌, Ok, Some, ap, ◌∙◌, subst}
 use Rattle.std.specs.List.{flat_map}
 use Rattle.pipe_eval.specs.Bound.{place_named}
 use Rattle.par_task.specs.Marking.{no_test}

@@ -1,4 +1,4 @@
-use Rattle.std.proofs.Common.{◌≤◌, length, map, subst, sym}
+use Rattle.std.proofs.Common.{◌≤◌, subst, sym}
 use Rattle.std.proofs.lemmas.List.{length-map}
 use Rattle.pipe_steps.specs.Said.{middle_view}
 use Rattle.pipe_stages.specs.Audits.{IsAuditOf}
