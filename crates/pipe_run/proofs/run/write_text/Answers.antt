@@ -1,0 +1,1 @@
+use Rattle.pipe_run.proofs.run.write_text.Goals as goal
