@@ -1,0 +1,6 @@
+mod Finding
+mod Given
+mod Guards
+mod Presents
+mod Settings
+mod Tries

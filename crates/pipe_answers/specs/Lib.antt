@@ -1,0 +1,5 @@
+pub mod AuditTexts
+pub mod Lasts
+pub mod Makes
+pub mod Texts
+pub mod Writers
