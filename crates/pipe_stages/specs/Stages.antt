@@ -128,7 +128,8 @@ at_most rows = cond (nat_lt 4194304 (length rows)) (Err TooMany) (Ok rows)
 
 -- ---- all of them
 
--- the rows after a step that gets these rows, of these columns
+-- the rows after a step that gets these rows, of these columns; of the last line are the steps that aren't built, which
+-- no call runs
 abbrev pub after : List Column → Middle → List Row → Answer
 after cs (x.Filter e) rows = filtered cs e rows
 after cs (x.FilterNot e) rows = refused cs e rows

@@ -24,3 +24,6 @@ pub use picks::CopySplitter;
 pub use step::{is_built, run_step};
 pub use stepped::Stepped;
 pub use stop::StepStop;
+
+#[cfg(test)]
+mod tests;
