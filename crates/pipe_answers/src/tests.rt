@@ -144,6 +144,22 @@ fn told(
     }
 }
 
+// Whether a last step tells this text.
+fn tells(alloc: Global, last: Last, rows: &[(i64, &str)], wanted: &str) -> Result<bool, Memory> {
+    match told(alloc, &last, rows)? {
+        Some(Ok(text)) => Ok(text.as_slice() == wanted.as_bytes()),
+        _ => Ok(false),
+    }
+}
+
+// Whether a last step stops by a zero divisor at this row.
+fn faults(alloc: Global, last: Last, rows: &[(i64, &str)], at: u32) -> Result<bool, Memory> {
+    match told(alloc, &last, rows)? {
+        Some(Err(stop)) => Ok(stop == StepStop::Fault(FaultAt { at, kind: 1 })),
+        _ => Ok(false),
+    }
+}
+
 fn expect(
     rt: &impl Abort,
     alloc: Global,
@@ -151,11 +167,8 @@ fn expect(
     rows: &[(i64, &str)],
     wanted: &str,
 ) -> Result<(), Fail> {
-    let text = told(alloc, &last, rows)?.ok_or("built and sound")?;
-    assert!(rt;
-        matches!(text, Ok(found) if found.as_slice() == wanted.as_bytes()),
-        "{wanted}"
-    );
+    let same = tells(alloc, last, rows, wanted)?;
+    assert!(rt; same, "{wanted}");
     Ok(())
 }
 
@@ -166,9 +179,8 @@ fn expect_fault(
     rows: &[(i64, &str)],
     at: u32,
 ) -> Result<(), Fail> {
-    let wanted = StepStop::Fault(FaultAt { at, kind: 1 });
-    let text = told(alloc, &last, rows)?.ok_or("built and sound")?;
-    assert!(rt; matches!(text, Err(stop) if stop == wanted), "{at}");
+    let same = faults(alloc, last, rows, at)?;
+    assert!(rt; same, "{at}");
     Ok(())
 }
 
