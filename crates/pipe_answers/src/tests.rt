@@ -153,7 +153,7 @@ fn tells(alloc: Global, last: Last, rows: &[(i64, &str)], wanted: &str) -> Resul
 }
 
 // Whether a last step stops by a zero divisor at this row.
-fn faults(alloc: Global, last: Last, rows: &[(i64, &str)], at: u32) -> Result<bool, Memory> {
+fn stops_at(alloc: Global, last: Last, rows: &[(i64, &str)], at: u32) -> Result<bool, Memory> {
     match told(alloc, &last, rows)? {
         Some(Err(stop)) => Ok(stop == StepStop::Fault(FaultAt { at, kind: 1 })),
         _ => Ok(false),
@@ -179,7 +179,7 @@ fn expect_fault(
     rows: &[(i64, &str)],
     at: u32,
 ) -> Result<(), Fail> {
-    let same = faults(alloc, last, rows, at)?;
+    let same = stops_at(alloc, last, rows, at)?;
     assert!(rt; same, "{at}");
     Ok(())
 }
