@@ -60,6 +60,7 @@ fn owned(alloc: Global, texts: &[&str]) -> Result<Vec<String>, Memory> {
 }
 
 /// A call of the program, and what it shall end with.
+#[derive(Clone, Copy)]
 struct Case<'a> {
     words: &'a [&'a str],
     pipe: &'a str,
