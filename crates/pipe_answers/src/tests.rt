@@ -145,19 +145,26 @@ fn told(
 }
 
 // Whether a last step tells this text.
-fn tells(alloc: Global, last: Last, rows: &[(i64, &str)], wanted: &str) -> Result<bool, Memory> {
-    match told(alloc, &last, rows)? {
+fn tells(alloc: Global, last: &Last, rows: &[(i64, &str)], wanted: &str) -> Result<bool, Memory> {
+    match told(alloc, last, rows)? {
         Some(Ok(text)) => Ok(text.as_slice() == wanted.as_bytes()),
         _ => Ok(false),
     }
 }
 
 // Whether a last step stops by a zero divisor at this row.
-fn stops_at(alloc: Global, last: Last, rows: &[(i64, &str)], at: u32) -> Result<bool, Memory> {
-    match told(alloc, &last, rows)? {
+fn stops_at(alloc: Global, last: &Last, rows: &[(i64, &str)], at: u32) -> Result<bool, Memory> {
+    match told(alloc, last, rows)? {
         Some(Err(stop)) => Ok(stop == StepStop::Fault(FaultAt { at, kind: 1 })),
         _ => Ok(false),
     }
+}
+
+// Asserts what was found out.
+fn hold(rt: &impl Abort, found: Result<bool, Memory>) -> Result<(), Fail> {
+    let holds = found?;
+    assert!(rt; holds);
+    Ok(())
 }
 
 fn expect(
@@ -167,9 +174,7 @@ fn expect(
     rows: &[(i64, &str)],
     wanted: &str,
 ) -> Result<(), Fail> {
-    let same = tells(alloc, last, rows, wanted)?;
-    assert!(rt; same, "{wanted}");
-    Ok(())
+    hold(rt, tells(alloc, &last, rows, wanted))
 }
 
 fn expect_fault(
@@ -179,9 +184,7 @@ fn expect_fault(
     rows: &[(i64, &str)],
     at: u32,
 ) -> Result<(), Fail> {
-    let same = stops_at(alloc, last, rows, at)?;
-    assert!(rt; same, "{at}");
-    Ok(())
+    hold(rt, stops_at(alloc, &last, rows, at))
 }
 
 const NONE: [(i64, &str); 0] = [];
