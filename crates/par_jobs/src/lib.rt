@@ -9,17 +9,16 @@
 //! | `SearchJob` | ends at any marked item | `find`, `exists`, `forall`, `sameElements` |
 //! | `LastJob` | looks for the last marked item | `lastIndexWhere` |
 //!
-//! Each job has a function that runs it whole over a source on the caller's thread, and says of its part what it means for
-//! the source's list: `gather_alone`, `sift_alone`, `front_alone`, `spanned_alone`, `search_alone` and `last_alone`. A test
+//! Each job has a function that has a `Runner` run it whole over a source, and says of its part what it means for the
+//! source's list: `gather_by`, `sift_by`, `front_by`, `spanned_by`, `search_by` and `last_by`. A test
 //! may find that an item has no truth value; which item's fault is then the call's says `fault_of` of specs/Faults, and
-//! `fault_here` and `fault_before` look at the one item that ended a job. What an audit tells is `IsRunAlone` of specs/Runs.
+//! `fault_here` and `fault_before` look at the one item that ended a job. What an audit tells is `IsRunOver` of specs/Runs.
 //!
 //! What is kept of the items is a `Builder`'s business, so that a call above is a builder and a few lines. The leaf of a
 //! low-flag job is one function, `pass_low`, whatever is kept.
 #![tactic(auto)]
 
 mod abort;
-mod alone;
 mod builder;
 mod fault;
 mod front;
@@ -28,6 +27,7 @@ mod keeping;
 mod last;
 mod looking;
 mod low;
+mod runs;
 mod search;
 mod sift;
 mod span;
@@ -35,12 +35,12 @@ mod stock;
 #[cfg(test)]
 mod tests;
 
-pub use alone::{front_alone, gather_alone, last_alone, search_alone, sift_alone, spanned_alone};
 pub use builder::Builder;
 pub use front::{Front, FrontJob};
 pub use gather::GatherJob;
 pub use last::LastJob;
 pub use looking::{fault_before, fault_here};
+pub use runs::{front_by, gather_by, last_by, search_by, sift_by, spanned_by};
 pub use search::{SearchJob, Sought};
 pub use sift::{SiftJob, Sifted};
 pub use span::{SpanJob, Spanned};

@@ -20,6 +20,7 @@ mod leaves;
 mod offers;
 mod pause;
 mod plan;
+mod pool;
 mod run;
 mod runs;
 mod serve;
@@ -29,4 +30,5 @@ mod tracked;
 mod worker;
 
 pub use plan::Plan;
+pub use pool::Pool;
 pub use run::run_job;

@@ -1,7 +1,8 @@
 //! A job run by several threads.
 ghost use Rattle.std.specs.Prelude.{◌≡◌, ◌≤◌, length, map, IfOk};
 ghost use Rattle.par_task.specs.Marking.{marks_of};
-ghost use Rattle.par_task.specs.Audits.{IsAudit, IsLeafed, Comes, threshold_of};
+ghost use Rattle.par_task.specs.Audits.{IsLeafed, Comes};
+ghost use Rattle.par_task.specs.Manners.{IsRunBy};
 
 use crate::bundle::Bundle;
 use crate::check::is_tiling;
@@ -11,7 +12,7 @@ use par_edge::Gate;
 use par_laws::{Memory, Shown, Test};
 use par_signal::Marks;
 use par_splitter::Splitter;
-use par_task::{Audit, Job, run_alone, threshold};
+use par_task::{Alone, Audit, Job, Runner, threshold};
 use std::alloc::Global;
 use std::sync::Wait;
 use std::thread::Threads;
@@ -64,13 +65,17 @@ where
     requires marks { M.marks marks.now ≡ marks_of J.kind (J.verdicts job.now) }
     ensures good { IfOk result (λ r. J.good job.now 0 (length (J.source job.now)) (J.Part.shown r.0)) }
     ensures comes { IfOk result (λ r. Comes (IsLeafed J.kind (marks_of J.kind (J.verdicts job.now)) (J.good job.now)) (J.merges job.now) r.1 (J.Part.shown r.0)) }
-    ensures audit { IfOk result (λ r. IsAudit J.kind (marks_of J.kind (J.verdicts job.now)) (length (J.source job.now)) (threshold_of (length (J.source job.now)) plan.now.level) plan.now.workers r.1) }
+    ensures audit { IfOk result (λ r. IsRunBy (record { workers = plan.now.workers; level = plan.now.level }) J.kind (marks_of J.kind (J.verdicts job.now)) (length (J.source job.now)) r.1) }
 {
+    let alone = Alone {
+        level: plan.level,
+        gate: plan.gate,
+    };
     let n = source.remaining();
     let t = threshold(n, plan.level);
     let workers = crew(n, t, plan.workers);
     if workers < 2 {
-        return run_alone(alloc, job, inner, marks, source, plan.level, plan.gate);
+        return alone.run(alloc, job, inner, marks, source);
     }
     let spare = source.dup();
     let (bundle, lists) = run_all(
@@ -91,5 +96,5 @@ where
     if listed {
         return Ok((part, Audit::of(leaves)));
     }
-    run_alone(alloc, job, inner, marks, spare, plan.level, plan.gate)
+    alone.run(alloc, job, inner, marks, spare)
 }

@@ -5,6 +5,7 @@ pub mod Leaves
 pub mod Seats
 pub mod Audits
 pub mod Alone
+pub mod Manners
 pub mod Parts
 pub mod Chains
 pub mod Tails

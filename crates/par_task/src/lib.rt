@@ -15,6 +15,7 @@ mod cutting;
 mod job;
 mod marked;
 mod run;
+mod runner;
 mod tails;
 #[cfg(test)]
 mod tests;
@@ -24,4 +25,5 @@ pub use cutting::chain;
 pub use job::{Done, Job};
 pub use marked::Marked;
 pub use run::{Place, run_alone, run_leaf, threshold};
+pub use runner::{Alone, Runner};
 pub use tails::{Chain, Tails};

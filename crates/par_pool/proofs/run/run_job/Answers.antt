@@ -3,11 +3,11 @@ use Rattle.std.proofs.lemmas.List.Elements.{All-contains}
 use Rattle.par_task.specs.Marking.{marks_of}
 use Rattle.par_task.specs.Audits.{IsAudit, threshold_of}
 use Rattle.par_pool.specs.Lists.{IsList}
-use Rattle.par_pool.proofs.Tiling.{audit_of, audit_seats, ok_map}
+use Rattle.par_pool.proofs.Tiling.{audit_of, by_more, ok_map}
 use Rattle.par_pool.proofs.run.run_job.Goals as goal
 
 pub returns-then-workers-lt2-clause-audit : goal.returns-then-workers-lt2-clause-audit
-returns-then-workers-lt2-clause-audit g c = ok_map c.run_alone.result _ _ (λ a h. audit_seats _ _ _ _ 1 _ a.1 c.requires.workers.0 h) c.run_alone.ensures.audit
+returns-then-workers-lt2-clause-audit g c = ok_map c.run.result _ _ (λ a h. by_more _ _ _ _ _ a.1 c.requires.workers.0 h) c.run.ensures.audit
 
 pub returns-then-listed-clause-audit : goal.returns-then-listed-clause-audit
 returns-then-listed-clause-audit g c =
@@ -23,9 +23,13 @@ returns-then-listed-clause-audit g c =
     let count : c.remaining-n.result ≡ length source = c.remaining-n.ensures ∙ ap length c.requires.source.1 in
     let most : c.threshold-t.result ≡ threshold_of (length source) level = c.threshold-t.ensures ∙ ap (λ (v : ℕ). threshold_of v level) count in
     let audit = audit_of (λ v. v.items) lists kind marks (λ v k. All-contains (λ l. IsList kind marks l.items) lists v c.in_ok-bundle.ensures.lists k) _ _ _ leaves tiling _ _ _ whole.comes in
-    rw c.of.ensures
-    (subst (λ (x : ℕ). IsAudit kind marks x (threshold_of (length source) level) c.args.plan.now.workers leaves) count
-    (subst (λ (y : ℕ). IsAudit kind marks c.remaining-n.result y c.args.plan.now.workers leaves) most audit))
+    let many : c.args.plan.now.workers ≡ 1 → ⊥ = λ e. omega (arith, e, c.if-workers.false, c.crew-workers.ensures) in
+    rw c.of.ensures (record {
+      audit = subst (λ (x : ℕ). IsAudit kind marks x (threshold_of (length source) level) c.args.plan.now.workers leaves) count
+          (subst (λ (y : ℕ). IsAudit kind marks c.remaining-n.result y c.args.plan.now.workers leaves) most audit);
+      chain = λ e. absurd (many e);
+      tested = λ e. absurd (many e);
+    })
 
 pub returns-clause-audit : goal.returns-clause-audit
-returns-clause-audit g c = ok_map c.run_alone-2.result _ _ (λ a h. audit_seats _ _ _ _ 1 _ a.1 c.requires.workers.0 h) c.run_alone-2.ensures.audit
+returns-clause-audit g c = ok_map c.run-2.result _ _ (λ a h. by_more _ _ _ _ _ a.1 c.requires.workers.0 h) c.run-2.ensures.audit
