@@ -4,17 +4,17 @@ ghost use Rattle.par_laws.specs.Verdict.{contrary};
 ghost use Rattle.par_lists.specs.Cuts as cuts;
 ghost use Rattle.par_lists.specs.Searches as searches;
 ghost use Rattle.par_task.specs.Marking.{low_flag, high_flag, passes};
+ghost use Rattle.par_task.specs.Manners.{IsManner};
 ghost use Rattle.par_jobs.specs.Faults as faults;
 ghost use Rattle.par_access.specs.Parts.{below};
-ghost use Rattle.par_jobs.specs.Runs.{IsRunAlone};
+ghost use Rattle.par_jobs.specs.Runs.{IsRunOver};
 
 use crate::faults::tried;
-use par_edge::Gate;
-use par_jobs::{Nothing, fault_before, fault_here, front_alone, last_alone};
+use par_jobs::{Nothing, fault_before, fault_here, front_by, last_by};
 use par_laws::{Memory, Not, Test, Tried};
 use par_lists::{index_of, place_of};
 use par_splitter::{Precise, Rebased, Splitter};
-use par_task::Audit;
+use par_task::{Audit, Runner};
 use std::alloc::Global;
 
 // The index, where it is one of so many items.
@@ -39,42 +39,44 @@ fn place_among(from: i64, count: u32) -> u32
 }
 
 /// The index of the first item that passes, or -1. Where an item faults before any passes, its fault.
-pub fn index_where_alone<S: Precise, G: Gate, P: Test<S::Item>>(
+pub fn index_where_by<S: Precise + Send + Sync, R: Runner, P: Test<S::Item> + Send + Sync>(
+    runner: &R,
     alloc: Global,
     source: S,
     test: &P,
-    level: u32,
-    gate: &G,
 ) -> Result<(Tried<i64>, Audit), Memory>
+where
+    S::Item: Send,
     requires begins { S.lo source ≡ 0 }
     requires small { length (S.items source) ≤ 4194304 }
-    requires level { (1 ≤ level) × (level ≤ 64) }
+    requires manner { IsManner (R.manner runner.now) }
     ensures answer { IfOk result (λ r. r.0 ≡ faults.tried (faults.fault_of low_flag (map (P.verdict test.now) (S.items source))) (searches.index_where (λ x. passes (P.verdict test.now x)) (S.items source))) }
-    ensures audit { IfOk result (λ r. IsRunAlone low_flag (P.verdict test.now) (S.items source) level r.1) }
+    ensures audit { IfOk result (λ r. IsRunOver low_flag (P.verdict test.now) (S.items source) (R.manner runner.now) r.1) }
 {
     let whole = source.dup();
-    let (front, audit) = front_alone(alloc, source, test, &Nothing, level, gate)?;
+    let (front, audit) = front_by(runner, alloc, source, test, &Nothing)?;
     let found = index_within(front.end, whole.remaining());
     let fault = fault_here(whole, test, front.end);
     Ok((tried(fault, index_of(found)), audit))
 }
 
 /// The index of the last item that passes, or -1. Where an item faults after all that pass, the fault of the last one.
-pub fn last_index_where_alone<S: Precise, G: Gate, P: Test<S::Item>>(
+pub fn last_index_where_by<S: Precise + Send + Sync, R: Runner, P: Test<S::Item> + Send + Sync>(
+    runner: &R,
     alloc: Global,
     source: S,
     test: &P,
-    level: u32,
-    gate: &G,
 ) -> Result<(Tried<i64>, Audit), Memory>
+where
+    S::Item: Send,
     requires begins { S.lo source ≡ 0 }
     requires small { length (S.items source) ≤ 4194304 }
-    requires level { (1 ≤ level) × (level ≤ 64) }
+    requires manner { IsManner (R.manner runner.now) }
     ensures answer { IfOk result (λ r. r.0 ≡ faults.tried (faults.fault_of high_flag (map (P.verdict test.now) (S.items source))) (searches.last_index_where (λ x. passes (P.verdict test.now x)) (S.items source))) }
-    ensures audit { IfOk result (λ r. IsRunAlone high_flag (P.verdict test.now) (S.items source) level r.1) }
+    ensures audit { IfOk result (λ r. IsRunOver high_flag (P.verdict test.now) (S.items source) (R.manner runner.now) r.1) }
 {
     let whole = source.dup();
-    let (above, audit) = last_alone(alloc, source, test, level, gate)?;
+    let (above, audit) = last_by(runner, alloc, source, test)?;
     let found = index_below(above);
     let fault = fault_before(whole, test, above);
     Ok((tried(fault, index_of(found)), audit))
@@ -82,25 +84,26 @@ pub fn last_index_where_alone<S: Precise, G: Gate, P: Test<S::Item>>(
 
 /// How many items in a row pass, from an index on. A negative index counts as 0. Where the item that ends the run faults,
 /// its fault, with its index in the source. The leaves are of the items from that index on, renumbered from 0.
-pub fn segment_length_alone<S: Precise, G: Gate, P: Test<S::Item>>(
+pub fn segment_length_by<S: Precise + Send + Sync, R: Runner, P: Test<S::Item> + Send + Sync>(
+    runner: &R,
     alloc: Global,
     source: S,
     test: &P,
     from: i64,
-    level: u32,
-    gate: &G,
 ) -> Result<(Tried<u32>, Audit), Memory>
+where
+    S::Item: Send,
     requires begins { S.lo source ≡ 0 }
     requires small { length (S.items source) ≤ 4194304 }
-    requires level { (1 ≤ level) × (level ≤ 64) }
+    requires manner { IsManner (R.manner runner.now) }
     ensures answer { IfOk result (λ r. r.0 ≡ faults.tried (faults.fault_at (map (P.verdict test.now) (S.items source)) (cuts.place from + cuts.segment_length (λ x. passes (P.verdict test.now x)) (cuts.place from) (S.items source))) (cuts.segment_length (λ x. passes (P.verdict test.now x)) (cuts.place from) (S.items source))) }
-    ensures audit { IfOk result (λ r. IsRunAlone low_flag (λ x. contrary (P.verdict test.now x)) (drop (cuts.place from) (S.items source)) level r.1) }
+    ensures audit { IfOk result (λ r. IsRunOver low_flag (λ x. contrary (P.verdict test.now x)) (drop (cuts.place from) (S.items source)) (R.manner runner.now) r.1) }
 {
     let whole = source.dup();
     let first = place_among(from, source.remaining());
     let (_, rest) = source.cut_at(first);
     let fails = Not { inner: test };
-    let (front, audit) = front_alone(alloc, Rebased::new(rest), &fails, &Nothing, level, gate)?;
+    let (front, audit) = front_by(runner, alloc, Rebased::new(rest), &fails, &Nothing)?;
     let fault = fault_here(whole, test, first + front.end);
     Ok((tried(fault, front.end), audit))
 }

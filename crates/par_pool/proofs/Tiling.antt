@@ -9,6 +9,7 @@ use Rattle.par_task.specs.Marking.{Kind}
 use Rattle.par_task.specs.Alone.{HasTurnsFrom}
 use Rattle.par_task.specs.Audits.{Adjoins, Covers, IsLeafed, Comes, one, both, HasTurns, Tiles, IsAudit, IsIdle, IsLawfulLeaf, Learns, threshold_of}
 use Rattle.par_task.specs.Manners.{IsRunBy, alone}
+use Rattle.par_pool.specs.Plans.{planned}
 use Rattle.par_task.specs.declared.audit.Leaf.{Leaf}
 use Rattle.par_pool.specs.Lists.{IsList, StandsAt, IsTable, IsTiling}
 
@@ -141,7 +142,7 @@ audit_seats kind marks n t few seats leaves le a = record {
 }
 
 -- what one worker tells, told of a run by as many
-pub by_more : (kind : Kind) (marks : List Bool) (n level workers : ℕ) (leaves : List Leaf) → 1 ≤ workers → IsRunBy (alone level) kind marks n leaves → IsRunBy (record { workers = workers; level = level }) kind marks n leaves
+pub by_more : (kind : Kind) (marks : List Bool) (n level workers : ℕ) (leaves : List Leaf) → 1 ≤ workers → IsRunBy (alone level) kind marks n leaves → IsRunBy (planned workers level) kind marks n leaves
 by_more kind marks n level workers leaves least h = record {
   audit = audit_seats kind marks n (threshold_of n level) 1 workers leaves least h.audit;
   chain = λ e. h.chain refl;

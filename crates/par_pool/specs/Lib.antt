@@ -1,3 +1,4 @@
+pub mod Plans
 pub mod Bundles
 pub mod Own
 pub mod World

@@ -21,7 +21,9 @@ pub struct Pool<'p, R, G> {
 }
 
 impl<'p, R: Threads + Wait + Sync, G: Gate + Sync> Runner for Pool<'p, R, G> {
-    ghost manner = { λ p. record { workers = p.plan.now.workers; level = p.plan.now.level } };
+    ghost use Rattle.par_pool.specs.Plans.{planned};
+
+    ghost manner = { λ p. planned p.plan.now.workers p.plan.now.level };
 
     fn run<J: Job + Sync, M: Marks>(
         &self,

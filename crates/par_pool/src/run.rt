@@ -3,6 +3,7 @@ ghost use Rattle.std.specs.Prelude.{◌≡◌, ◌≤◌, length, map, IfOk};
 ghost use Rattle.par_task.specs.Marking.{marks_of};
 ghost use Rattle.par_task.specs.Audits.{IsLeafed, Comes};
 ghost use Rattle.par_task.specs.Manners.{IsRunBy};
+ghost use Rattle.par_pool.specs.Plans.{planned};
 
 use crate::bundle::Bundle;
 use crate::check::is_tiling;
@@ -65,7 +66,7 @@ where
     requires marks { M.marks marks.now ≡ marks_of J.kind (J.verdicts job.now) }
     ensures good { IfOk result (λ r. J.good job.now 0 (length (J.source job.now)) (J.Part.shown r.0)) }
     ensures comes { IfOk result (λ r. Comes (IsLeafed J.kind (marks_of J.kind (J.verdicts job.now)) (J.good job.now)) (J.merges job.now) r.1 (J.Part.shown r.0)) }
-    ensures audit { IfOk result (λ r. IsRunBy (record { workers = plan.now.workers; level = plan.now.level }) J.kind (marks_of J.kind (J.verdicts job.now)) (length (J.source job.now)) r.1) }
+    ensures audit { IfOk result (λ r. IsRunBy (planned plan.now.workers plan.now.level) J.kind (marks_of J.kind (J.verdicts job.now)) (length (J.source job.now)) r.1) }
 {
     let alone = Alone {
         level: plan.level,

@@ -4,3 +4,4 @@ pub mod Tiling
 pub mod Stops
 pub mod Counting
 pub mod Running
+pub mod Runners

@@ -8,10 +8,10 @@ use Rattle.std.proofs.lemmas.List.FromFn.{length-range_with_len}
 use Rattle.std.proofs.lemmas.Slice.Zip.{length-zip}
 use Rattle.par_splitter.specs.Range.{IsRange, IsRangeCount}
 use Rattle.par_task.specs.Marking.{marks_of, no_test}
-use Rattle.par_task.specs.Audits.{IsAudit, threshold_of}
+use Rattle.par_task.specs.Manners.{Manner, IsRunBy}
 use Rattle.par_task.specs.declared.audit.Leaf.{Leaf}
 use Rattle.par_transform.specs.Indexes.{indexes, with_indexes}
-use Rattle.par_jobs.specs.Runs.{IsRunAlone, untested}
+use Rattle.par_jobs.specs.Runs.{IsRunOver, untested}
 
 same_marks : {X Y : Type 0} (xs : List X) (ys : List Y) → length xs ≡ length ys → marks_of no_test (map untested xs) ≡ marks_of no_test (map untested ys)
 same_marks [] [] e = refl
@@ -20,21 +20,17 @@ same_marks (x ∷ xs) [] e = absurd (omega (arith, e))
 same_marks (x ∷ xs) (y ∷ ys) e = ap (λ l. false ∷ l) (same_marks xs ys (omega (arith, e)))
 
 -- a run without a test over as many items
-run_as : {X Y : Type 0} (xs : List X) (ys : List Y) (level : ℕ) (leaves : List Leaf) → length xs ≡ length ys → IsRunAlone no_test untested xs level leaves → IsRunAlone no_test untested ys level leaves
-run_as xs ys level leaves e r = record {
-  audit =
-      subst (λ n. IsAudit no_test (marks_of no_test (map untested ys)) n (threshold_of n level) 1 leaves) e
-      (subst (λ ms. IsAudit no_test ms (length xs) (threshold_of (length xs) level) 1 leaves) (same_marks xs ys e) r.audit);
-  chain = r.chain;
-  tested = tt;
-}
+run_as : {X Y : Type 0} (xs : List X) (ys : List Y) (manner : Manner) (leaves : List Leaf) → length xs ≡ length ys → IsRunOver no_test untested xs manner leaves → IsRunOver no_test untested ys manner leaves
+run_as xs ys manner leaves e r =
+    subst (λ n. IsRunBy manner no_test (marks_of no_test (map untested ys)) n leaves) e
+    (subst (λ ms. IsRunBy manner no_test ms (length xs) leaves) (same_marks xs ys e) r)
 
 -- and so its answer tells of them, where there is one
 pub ran_as :
-    {X Y P E : Type 0} (xs : List X) (ys : List Y) (level : ℕ) (r : Result (P × List Leaf) E) → length xs ≡ length ys → IfOk r (λ a. IsRunAlone no_test untested xs level a.1) →
-    IfOk r (λ a. IsRunAlone no_test untested ys level a.1)
-ran_as xs ys level (Ok a) e h = run_as xs ys level a.1 e h
-ran_as xs ys level (Err e) _ h = tt
+    {X Y P E : Type 0} (xs : List X) (ys : List Y) (manner : Manner) (r : Result (P × List Leaf) E) → length xs ≡ length ys → IfOk r (λ a. IsRunOver no_test untested xs manner a.1) →
+    IfOk r (λ a. IsRunOver no_test untested ys manner a.1)
+ran_as xs ys manner (Ok a) e h = run_as xs ys manner a.1 e h
+ran_as xs ys manner (Err e) _ h = tt
 
 -- the numbers from 0 on and before n are n
 pub count_up : (n : ℕ) → IsRangeCount (pos 0) (pos n) (pos 1) n

@@ -3,16 +3,16 @@ ghost use Rattle.std.specs.Prelude.{◌≡◌, ◌≤◌, length, map, IfOk};
 ghost use Rattle.std.specs.List.{filter};
 ghost use Rattle.par_lists.specs.Choices as lists;
 ghost use Rattle.par_task.specs.Marking.{no_flag, passes};
+ghost use Rattle.par_task.specs.Manners.{IsManner};
 ghost use Rattle.par_jobs.specs.Faults.{IsTried, least_fault};
-ghost use Rattle.par_jobs.specs.Runs.{IsRunAlone};
+ghost use Rattle.par_jobs.specs.Runs.{IsRunOver};
 
 use crate::collecting::Collecting;
 use par_combiner::Combiner;
-use par_edge::Gate;
-use par_jobs::{Nothing, Sifted, sift_alone};
+use par_jobs::{Nothing, Sifted, sift_by};
 use par_laws::{Mapper, Memory, Shown, Test, Tried};
 use par_splitter::Precise;
-use par_task::Audit;
+use par_task::{Audit, Runner};
 use std::alloc::Global;
 use std::marker::PhantomData;
 
@@ -20,31 +20,26 @@ use std::marker::PhantomData;
 /// `filter`.
 ///
 /// Linear in the items; the one error is want of memory.
-pub fn filter_alone<
-    S: Precise,
-    C: Combiner,
-    G: Gate,
-    P: Test<S::Item>,
-    F: Mapper<S::Item, C::Item>,
->(
-    alloc: Global,
-    source: S,
-    test: &P,
-    of: &F,
-    level: u32,
-    gate: &G,
-) -> Result<(Tried<C::Out>, Audit), Memory>
+pub fn filter_by<
+    S: Precise + Send + Sync,
+    C: Combiner + Send + Sync,
+    R: Runner,
+    P: Test<S::Item> + Send + Sync,
+    F: Mapper<S::Item, C::Item> + Sync,
+>(runner: &R, alloc: Global, source: S, test: &P, of: &F) -> Result<(Tried<C::Out>, Audit), Memory>
+where
+    S::Item: Send,
     requires begins { S.lo source ≡ 0 }
     requires small { length (S.items source) ≤ 4194304 }
-    requires level { (1 ≤ level) × (level ≤ 64) }
+    requires manner { IsManner (R.manner runner.now) }
     ensures answer { IfOk result (λ r. IsTried (least_fault (map (P.verdict test.now) (S.items source))) (λ out. C.stands out (map (F.mapped of.now) (filter (λ x. passes (P.verdict test.now x)) (S.items source)))) r.0) }
-    ensures audit { IfOk result (λ r. IsRunAlone no_flag (P.verdict test.now) (S.items source) level r.1) }
+    ensures audit { IfOk result (λ r. IsRunOver no_flag (P.verdict test.now) (S.items source) (R.manner runner.now) r.1) }
 {
     let kept: Collecting<'_, F, C> = Collecting {
         of,
         out: PhantomData,
     };
-    let (sifted, audit) = sift_alone(alloc, source, test, &kept, &Nothing, level, gate)?;
+    let (sifted, audit) = sift_by(runner, alloc, source, test, &kept, &Nothing)?;
     match sifted {
         Sifted::Got(passing, _) => Ok((Tried::Got(passing.result()?), audit)),
         Sifted::Fell(fault) => Ok((Tried::Fault(fault), audit)),
@@ -55,31 +50,26 @@ pub fn filter_alone<
 /// Scala: `filterNot`.
 ///
 /// Linear in the items; the one error is want of memory.
-pub fn filter_not_alone<
-    S: Precise,
-    C: Combiner,
-    G: Gate,
-    P: Test<S::Item>,
-    F: Mapper<S::Item, C::Item>,
->(
-    alloc: Global,
-    source: S,
-    test: &P,
-    of: &F,
-    level: u32,
-    gate: &G,
-) -> Result<(Tried<C::Out>, Audit), Memory>
+pub fn filter_not_by<
+    S: Precise + Send + Sync,
+    C: Combiner + Send + Sync,
+    R: Runner,
+    P: Test<S::Item> + Send + Sync,
+    F: Mapper<S::Item, C::Item> + Sync,
+>(runner: &R, alloc: Global, source: S, test: &P, of: &F) -> Result<(Tried<C::Out>, Audit), Memory>
+where
+    S::Item: Send,
     requires begins { S.lo source ≡ 0 }
     requires small { length (S.items source) ≤ 4194304 }
-    requires level { (1 ≤ level) × (level ≤ 64) }
+    requires manner { IsManner (R.manner runner.now) }
     ensures answer { IfOk result (λ r. IsTried (least_fault (map (P.verdict test.now) (S.items source))) (λ out. C.stands out (map (F.mapped of.now) (lists.filter_not (λ x. passes (P.verdict test.now x)) (S.items source)))) r.0) }
-    ensures audit { IfOk result (λ r. IsRunAlone no_flag (P.verdict test.now) (S.items source) level r.1) }
+    ensures audit { IfOk result (λ r. IsRunOver no_flag (P.verdict test.now) (S.items source) (R.manner runner.now) r.1) }
 {
     let kept: Collecting<'_, F, C> = Collecting {
         of,
         out: PhantomData,
     };
-    let (sifted, audit) = sift_alone(alloc, source, test, &Nothing, &kept, level, gate)?;
+    let (sifted, audit) = sift_by(runner, alloc, source, test, &Nothing, &kept)?;
     match sifted {
         Sifted::Got(_, failing) => Ok((Tried::Got(failing.result()?), audit)),
         Sifted::Fell(fault) => Ok((Tried::Fault(fault), audit)),
@@ -90,58 +80,54 @@ pub fn filter_not_alone<
 /// `collect`.
 ///
 /// Linear in the items; the one error is want of memory.
-pub fn collect_alone<
-    S: Precise,
-    C: Combiner,
-    G: Gate,
-    P: Test<S::Item>,
-    F: Mapper<S::Item, C::Item>,
->(
-    alloc: Global,
-    source: S,
-    test: &P,
-    of: &F,
-    level: u32,
-    gate: &G,
-) -> Result<(Tried<C::Out>, Audit), Memory>
+pub fn collect_by<
+    S: Precise + Send + Sync,
+    C: Combiner + Send + Sync,
+    R: Runner,
+    P: Test<S::Item> + Send + Sync,
+    F: Mapper<S::Item, C::Item> + Sync,
+>(runner: &R, alloc: Global, source: S, test: &P, of: &F) -> Result<(Tried<C::Out>, Audit), Memory>
+where
+    S::Item: Send,
     requires begins { S.lo source ≡ 0 }
     requires small { length (S.items source) ≤ 4194304 }
-    requires level { (1 ≤ level) × (level ≤ 64) }
+    requires manner { IsManner (R.manner runner.now) }
     ensures answer { IfOk result (λ r. IsTried (least_fault (map (P.verdict test.now) (S.items source))) (λ out. C.stands out (lists.collect (λ x. passes (P.verdict test.now x)) (F.mapped of.now) (S.items source))) r.0) }
-    ensures audit { IfOk result (λ r. IsRunAlone no_flag (P.verdict test.now) (S.items source) level r.1) }
+    ensures audit { IfOk result (λ r. IsRunOver no_flag (P.verdict test.now) (S.items source) (R.manner runner.now) r.1) }
 {
-    filter_alone::<S, C, G, P, F>(alloc, source, test, of, level, gate)
+    filter_by::<S, C, R, P, F>(runner, alloc, source, test, of)
 }
 
 /// What `of` makes of the items that pass, and of the others, each in order; or the fault with the least index, where an
 /// item faults. Scala: `partition`.
 ///
 /// Linear in the items; the one error is want of memory.
-pub fn partition_alone<
-    S: Precise,
-    C: Combiner,
-    G: Gate,
-    P: Test<S::Item>,
-    F: Mapper<S::Item, C::Item>,
+pub fn partition_by<
+    S: Precise + Send + Sync,
+    C: Combiner + Send + Sync,
+    R: Runner,
+    P: Test<S::Item> + Send + Sync,
+    F: Mapper<S::Item, C::Item> + Sync,
 >(
+    runner: &R,
     alloc: Global,
     source: S,
     test: &P,
     of: &F,
-    level: u32,
-    gate: &G,
 ) -> Result<(Tried<(C::Out, C::Out)>, Audit), Memory>
+where
+    S::Item: Send,
     requires begins { S.lo source ≡ 0 }
     requires small { length (S.items source) ≤ 4194304 }
-    requires level { (1 ≤ level) × (level ≤ 64) }
+    requires manner { IsManner (R.manner runner.now) }
     ensures answer { IfOk result (λ r. IsTried (least_fault (map (P.verdict test.now) (S.items source))) (λ out. C.stands out.0 (map (F.mapped of.now) (lists.partition (λ x. passes (P.verdict test.now x)) (S.items source)).0) × C.stands out.1 (map (F.mapped of.now) (lists.partition (λ x. passes (P.verdict test.now x)) (S.items source)).1)) r.0) }
-    ensures audit { IfOk result (λ r. IsRunAlone no_flag (P.verdict test.now) (S.items source) level r.1) }
+    ensures audit { IfOk result (λ r. IsRunOver no_flag (P.verdict test.now) (S.items source) (R.manner runner.now) r.1) }
 {
     let kept: Collecting<'_, F, C> = Collecting {
         of,
         out: PhantomData,
     };
-    let (sifted, audit) = sift_alone(alloc, source, test, &kept, &kept, level, gate)?;
+    let (sifted, audit) = sift_by(runner, alloc, source, test, &kept, &kept)?;
     match sifted {
         Sifted::Got(passing, failing) => {
             let passing = passing.result()?;

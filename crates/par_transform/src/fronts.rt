@@ -3,16 +3,16 @@ ghost use Rattle.std.specs.Prelude.{◌≡◌, ◌≤◌, length, map, take_whil
 ghost use Rattle.par_laws.specs.Verdict.{contrary};
 ghost use Rattle.par_lists.specs.Cuts as lists;
 ghost use Rattle.par_task.specs.Marking.{low_flag, passes};
+ghost use Rattle.par_task.specs.Manners.{IsManner};
 ghost use Rattle.par_jobs.specs.Faults.{IsTried, fault_of};
-ghost use Rattle.par_jobs.specs.Runs.{IsRunAlone};
+ghost use Rattle.par_jobs.specs.Runs.{IsRunOver};
 
 use crate::collecting::Collecting;
 use par_combiner::Combiner;
-use par_edge::Gate;
-use par_jobs::{fault_here, front_alone, spanned_alone};
+use par_jobs::{fault_here, front_by, spanned_by};
 use par_laws::{Mapper, Memory, Not, Shown, Test, Tried};
 use par_splitter::{Precise, Splitter};
-use par_task::Audit;
+use par_task::{Audit, Runner};
 use std::alloc::Global;
 use std::marker::PhantomData;
 
@@ -20,25 +20,20 @@ use std::marker::PhantomData;
 /// No item after it is looked for. Scala: `takeWhile`.
 ///
 /// Linear in the items; the one error is want of memory.
-pub fn take_while_alone<
-    S: Precise,
-    C: Combiner,
-    G: Gate,
-    P: Test<S::Item>,
-    F: Mapper<S::Item, C::Item>,
->(
-    alloc: Global,
-    source: S,
-    test: &P,
-    of: &F,
-    level: u32,
-    gate: &G,
-) -> Result<(Tried<C::Out>, Audit), Memory>
+pub fn take_while_by<
+    S: Precise + Send + Sync,
+    C: Combiner + Send + Sync,
+    R: Runner,
+    P: Test<S::Item> + Send + Sync,
+    F: Mapper<S::Item, C::Item> + Sync,
+>(runner: &R, alloc: Global, source: S, test: &P, of: &F) -> Result<(Tried<C::Out>, Audit), Memory>
+where
+    S::Item: Send,
     requires begins { S.lo source ≡ 0 }
     requires small { length (S.items source) ≤ 4194304 }
-    requires level { (1 ≤ level) × (level ≤ 64) }
+    requires manner { IsManner (R.manner runner.now) }
     ensures answer { IfOk result (λ r. IsTried (fault_of low_flag (map (λ x. contrary (P.verdict test.now x)) (S.items source))) (λ out. C.stands out (map (F.mapped of.now) (take_while (λ x. passes (P.verdict test.now x)) (S.items source)))) r.0) }
-    ensures audit { IfOk result (λ r. IsRunAlone low_flag (λ x. contrary (P.verdict test.now x)) (S.items source) level r.1) }
+    ensures audit { IfOk result (λ r. IsRunOver low_flag (λ x. contrary (P.verdict test.now x)) (S.items source) (R.manner runner.now) r.1) }
 {
     let kept: Collecting<'_, F, C> = Collecting {
         of,
@@ -46,7 +41,7 @@ pub fn take_while_alone<
     };
     let fails = Not { inner: test };
     let again = source.dup();
-    let (front, audit) = front_alone(alloc, source, &fails, &kept, level, gate)?;
+    let (front, audit) = front_by(runner, alloc, source, &fails, &kept)?;
     match fault_here(again, &fails, front.end) {
         None => Ok((Tried::Got(front.kept.result()?), audit)),
         Some(fault) => Ok((Tried::Fault(fault), audit)),
@@ -57,25 +52,20 @@ pub fn take_while_alone<
 /// No item after it is tested. Scala: `dropWhile`.
 ///
 /// Linear in the items; the one error is want of memory.
-pub fn drop_while_alone<
-    S: Precise,
-    C: Combiner,
-    G: Gate,
-    P: Test<S::Item>,
-    F: Mapper<S::Item, C::Item>,
->(
-    alloc: Global,
-    source: S,
-    test: &P,
-    of: &F,
-    level: u32,
-    gate: &G,
-) -> Result<(Tried<C::Out>, Audit), Memory>
+pub fn drop_while_by<
+    S: Precise + Send + Sync,
+    C: Combiner + Send + Sync,
+    R: Runner,
+    P: Test<S::Item> + Send + Sync,
+    F: Mapper<S::Item, C::Item> + Sync,
+>(runner: &R, alloc: Global, source: S, test: &P, of: &F) -> Result<(Tried<C::Out>, Audit), Memory>
+where
+    S::Item: Send,
     requires begins { S.lo source ≡ 0 }
     requires small { length (S.items source) ≤ 4194304 }
-    requires level { (1 ≤ level) × (level ≤ 64) }
+    requires manner { IsManner (R.manner runner.now) }
     ensures answer { IfOk result (λ r. IsTried (fault_of low_flag (map (λ x. contrary (P.verdict test.now x)) (S.items source))) (λ out. C.stands out (map (F.mapped of.now) (lists.drop_while (λ x. passes (P.verdict test.now x)) (S.items source)))) r.0) }
-    ensures audit { IfOk result (λ r. IsRunAlone low_flag (λ x. contrary (P.verdict test.now x)) (S.items source) level r.1) }
+    ensures audit { IfOk result (λ r. IsRunOver low_flag (λ x. contrary (P.verdict test.now x)) (S.items source) (R.manner runner.now) r.1) }
 {
     let kept: Collecting<'_, F, C> = Collecting {
         of,
@@ -83,7 +73,7 @@ pub fn drop_while_alone<
     };
     let fails = Not { inner: test };
     let again = source.dup();
-    let (parts, audit) = spanned_alone(alloc, source, &fails, &kept, level, gate)?;
+    let (parts, audit) = spanned_by(runner, alloc, source, &fails, &kept)?;
     match fault_here(again, &fails, parts.end) {
         None => Ok((Tried::Got(parts.suffix.result()?), audit)),
         Some(fault) => Ok((Tried::Fault(fault), audit)),
@@ -93,19 +83,26 @@ pub fn drop_while_alone<
 /// What `take_while_alone` and `drop_while_alone` make, in one run. Scala: `span`.
 ///
 /// Linear in the items; the one error is want of memory.
-pub fn span_alone<S: Precise, C: Combiner, G: Gate, P: Test<S::Item>, F: Mapper<S::Item, C::Item>>(
+pub fn span_by<
+    S: Precise + Send + Sync,
+    C: Combiner + Send + Sync,
+    R: Runner,
+    P: Test<S::Item> + Send + Sync,
+    F: Mapper<S::Item, C::Item> + Sync,
+>(
+    runner: &R,
     alloc: Global,
     source: S,
     test: &P,
     of: &F,
-    level: u32,
-    gate: &G,
 ) -> Result<(Tried<(C::Out, C::Out)>, Audit), Memory>
+where
+    S::Item: Send,
     requires begins { S.lo source ≡ 0 }
     requires small { length (S.items source) ≤ 4194304 }
-    requires level { (1 ≤ level) × (level ≤ 64) }
+    requires manner { IsManner (R.manner runner.now) }
     ensures answer { IfOk result (λ r. IsTried (fault_of low_flag (map (λ x. contrary (P.verdict test.now x)) (S.items source))) (λ out. C.stands out.0 (map (F.mapped of.now) (lists.span (λ x. passes (P.verdict test.now x)) (S.items source)).0) × C.stands out.1 (map (F.mapped of.now) (lists.span (λ x. passes (P.verdict test.now x)) (S.items source)).1)) r.0) }
-    ensures audit { IfOk result (λ r. IsRunAlone low_flag (λ x. contrary (P.verdict test.now x)) (S.items source) level r.1) }
+    ensures audit { IfOk result (λ r. IsRunOver low_flag (λ x. contrary (P.verdict test.now x)) (S.items source) (R.manner runner.now) r.1) }
 {
     let kept: Collecting<'_, F, C> = Collecting {
         of,
@@ -113,7 +110,7 @@ pub fn span_alone<S: Precise, C: Combiner, G: Gate, P: Test<S::Item>, F: Mapper<
     };
     let fails = Not { inner: test };
     let again = source.dup();
-    let (parts, audit) = spanned_alone(alloc, source, &fails, &kept, level, gate)?;
+    let (parts, audit) = spanned_by(runner, alloc, source, &fails, &kept)?;
     match fault_here(again, &fails, parts.end) {
         None => {
             let before = parts.prefix.result()?;
