@@ -4,38 +4,37 @@ ghost use Rattle.std.specs.Prelude.{◌≡◌, ◌≤◌, None, Some, length, ma
 ghost use Rattle.std.specs.List.{fold};
 ghost use Rattle.par_laws.specs.Guarded.{made_map};
 ghost use Rattle.par_task.specs.Marking.{no_test};
-ghost use Rattle.par_jobs.specs.Runs.{IsRunAlone, untested};
+ghost use Rattle.par_jobs.specs.Runs.{IsRunOver, untested};
 ghost use Rattle.pipe_stages.specs.Rows.{pointed};
 ghost use Rattle.pipe_answers.specs.Lasts.{StopsBy};
+ghost use Rattle.par_task.specs.Manners.{IsManner};
 ghost use Rattle.pipe_answers.specs.Makes.{made_fault, made_values};
 
-use par_access::aggregate_alone;
-use par_edge::Gate;
+use par_access::aggregate_by;
 use par_laws::{FaultAt, Guard, Guarded, Made, Mapper, Memory, Monoid, Shown};
 use par_rows::Row;
-use par_task::Audit;
+use par_task::{Audit, Runner};
 use pipe_stages::{CopySplitter, StepStop};
 use std::alloc::Global;
 
 /// What is made of the rows, folded; or the fault of the first row that has one.
-pub(crate) fn fold_made<'a, G: Gate, M: Monoid, F: Mapper<&'a Row, Made<M::T>>>(
+pub(crate) fn fold_made<'a, R: Runner, M: Monoid, F: Mapper<&'a Row, Made<M::T>>>(
+    runner: &R,
     alloc: Global,
     how: &M,
     of: &F,
     rows: &[&'a Row],
-    level: u32,
-    gate: &G,
 ) -> Result<(M::T, Audit), StepStop>
     requires small { length rows.now ≤ 4194304 }
-    requires level { (1 ≤ level) × (level ≤ 64) }
+    requires manner { IsManner (R.manner runner.now) }
     ensures fine { IfOk result (λ r. made_fault (map (F.mapped of.now) (pointed rows.now)) ≡ None) }
     ensures value { IfOk result (λ r. M.T.shown r.0 ≡ fold (M.joined how.now) (M.unit how.now) (made_values (map (F.mapped of.now) (pointed rows.now)))) }
-    ensures audit { IfOk result (λ r. IsRunAlone no_test untested (pointed rows.now) level r.1) }
+    ensures audit { IfOk result (λ r. IsRunOver no_test untested (pointed rows.now) (R.manner runner.now) r.1) }
     ensures stop { IfErr result (StopsBy (made_fault (map (F.mapped of.now) (pointed rows.now)))) }
 {
     let guard = Guard { how, of };
     let source = CopySplitter::new(rows);
-    let (folded, audit) = aggregate_alone(alloc, source, &guard, level, gate)?;
+    let (folded, audit) = aggregate_by(runner, alloc, source, &guard)?;
     match folded {
         Guarded::Fine { count: _, value } => Ok((value, audit)),
         Guarded::Fault { count: _, at, kind } => Err(StepStop::Fault(FaultAt {

@@ -14,15 +14,16 @@ ghost use Rattle.pipe_stages.specs.Audits.{IsRun};
 ghost use Rattle.pipe_stages.specs.Rows.{pointed};
 ghost use Rattle.pipe_stages.specs.Stages.{denied, holds};
 ghost use Rattle.pipe_answers.specs.Lasts.{Gives};
+ghost use Rattle.par_task.specs.Manners.{IsManner};
 ghost use Rattle.pipe_answers.specs.Texts as texts;
 
 use crate::numbers::Told;
 use crate::rows::parts;
 use par_combiner::ArrayCombiner;
-use par_edge::Gate;
 use par_laws::{Mapper, Memory, Tried};
 use par_rows::{Row, Schema};
-use par_transform::{partition_alone, span_alone};
+use par_task::Runner;
+use par_transform::{partition_by, span_by};
 use pipe_eval::Condition;
 use pipe_expr::Expr;
 use pipe_stages::{CopySplitter, StepStop};
@@ -46,23 +47,22 @@ impl<'a> Mapper<&'a Row, &'a Row> for Itself {
 }
 
 /// The longest prefix of rows that pass, and the rest.
-pub(crate) fn span<'a, G: Gate>(
+pub(crate) fn span<'a, R: Runner>(
+    runner: &R,
     alloc: Global,
     e: &Expr,
     schema: &Schema,
     rows: &[&'a Row],
-    level: u32,
-    gate: &G,
 ) -> Result<Told, StepStop>
     requires kind { fits schema.now.columns.items TruthWanted (view e.now) ≡ true }
     requires small { length rows.now ≤ 4194304 }
-    requires level { (1 ≤ level) × (level ≤ 64) }
-    ensures { Gives (fault_of low_flag (map (denied schema.now.columns.items (view e.now)) (pointed rows.now))) (λ text. text ≡ texts.parts_text (take_while (holds schema.now.columns.items (view e.now)) (pointed rows.now)) (drop_while (holds schema.now.columns.items (view e.now)) (pointed rows.now))) (IsRun low_flag (denied schema.now.columns.items (view e.now)) (pointed rows.now) level) result }
+    requires manner { IsManner (R.manner runner.now) }
+    ensures { Gives (fault_of low_flag (map (denied schema.now.columns.items (view e.now)) (pointed rows.now))) (λ text. text ≡ texts.parts_text (take_while (holds schema.now.columns.items (view e.now)) (pointed rows.now)) (drop_while (holds schema.now.columns.items (view e.now)) (pointed rows.now))) (IsRun low_flag (denied schema.now.columns.items (view e.now)) (pointed rows.now) (R.manner runner.now)) result }
 {
     let test = Condition::bind(alloc, e, schema)?;
     let source = CopySplitter::new(rows);
-    let (tried, audit) = span_alone::<Source<'_, 'a>, Picks<'a>, G, Condition, Itself>(
-        alloc, source, &test, &Itself, level, gate,
+    let (tried, audit) = span_by::<Source<'_, 'a>, Picks<'a>, R, Condition, Itself>(
+        runner, alloc, source, &test, &Itself,
     )?;
     match tried {
         Tried::Got(both) => Ok((parts(alloc, &both.0, &both.1)?, Some(audit))),
@@ -71,23 +71,22 @@ pub(crate) fn span<'a, G: Gate>(
 }
 
 /// The rows that pass, and those that don't.
-pub(crate) fn partition<'a, G: Gate>(
+pub(crate) fn partition<'a, R: Runner>(
+    runner: &R,
     alloc: Global,
     e: &Expr,
     schema: &Schema,
     rows: &[&'a Row],
-    level: u32,
-    gate: &G,
 ) -> Result<Told, StepStop>
     requires kind { fits schema.now.columns.items TruthWanted (view e.now) ≡ true }
     requires small { length rows.now ≤ 4194304 }
-    requires level { (1 ≤ level) × (level ≤ 64) }
-    ensures { Gives (fault_of no_flag (map (verdict_on schema.now.columns.items (view e.now)) (pointed rows.now))) (λ text. text ≡ texts.parts_text (filter (holds schema.now.columns.items (view e.now)) (pointed rows.now)) (filter_not (holds schema.now.columns.items (view e.now)) (pointed rows.now))) (IsRun no_flag (verdict_on schema.now.columns.items (view e.now)) (pointed rows.now) level) result }
+    requires manner { IsManner (R.manner runner.now) }
+    ensures { Gives (fault_of no_flag (map (verdict_on schema.now.columns.items (view e.now)) (pointed rows.now))) (λ text. text ≡ texts.parts_text (filter (holds schema.now.columns.items (view e.now)) (pointed rows.now)) (filter_not (holds schema.now.columns.items (view e.now)) (pointed rows.now))) (IsRun no_flag (verdict_on schema.now.columns.items (view e.now)) (pointed rows.now) (R.manner runner.now)) result }
 {
     let test = Condition::bind(alloc, e, schema)?;
     let source = CopySplitter::new(rows);
-    let (tried, audit) = partition_alone::<Source<'_, 'a>, Picks<'a>, G, Condition, Itself>(
-        alloc, source, &test, &Itself, level, gate,
+    let (tried, audit) = partition_by::<Source<'_, 'a>, Picks<'a>, R, Condition, Itself>(
+        runner, alloc, source, &test, &Itself,
     )?;
     match tried {
         Tried::Got(sides) => Ok((parts(alloc, &sides.0, &sides.1)?, Some(audit))),

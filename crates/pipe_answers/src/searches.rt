@@ -15,18 +15,18 @@ ghost use Rattle.pipe_stages.specs.Audits.{IsRun};
 ghost use Rattle.pipe_stages.specs.Rows.{pointed};
 ghost use Rattle.pipe_stages.specs.Stages.{denied, holds};
 ghost use Rattle.pipe_answers.specs.Lasts.{Gives, IsFoundRow};
+ghost use Rattle.par_task.specs.Manners.{IsManner};
 ghost use Rattle.pipe_answers.specs.Texts as texts;
 
 use crate::numbers::Told;
 use crate::rows::found;
 use crate::texts;
 use par_access::{
-    exists_alone, find_alone, forall_alone, index_where_alone, last_index_where_alone,
-    segment_length_alone,
+    exists_by, find_by, forall_by, index_where_by, last_index_where_by, segment_length_by,
 };
-use par_edge::Gate;
 use par_laws::Tried;
 use par_rows::{Row, Schema};
+use par_task::Runner;
 use pipe_eval::Condition;
 use pipe_expr::Expr;
 use pipe_stages::{CopySplitter, StepStop};
@@ -43,22 +43,21 @@ fn row_at<'a>(rows: &[&'a Row], place: Option<u32>) -> Option<&'a Row>
 }
 
 /// Some row that passes, or `none`.
-pub(crate) fn find<G: Gate>(
+pub(crate) fn find<R: Runner>(
+    runner: &R,
     alloc: Global,
     e: &Expr,
     schema: &Schema,
     rows: &[&Row],
-    level: u32,
-    gate: &G,
 ) -> Result<Told, StepStop>
     requires kind { fits schema.now.columns.items TruthWanted (view e.now) ≡ true }
     requires small { length rows.now ≤ 4194304 }
-    requires level { (1 ≤ level) × (level ≤ 64) }
-    ensures { Gives (fault_of abort_flag (map (verdict_on schema.now.columns.items (view e.now)) (pointed rows.now))) (λ text. (row : Option OneRow) × IsFoundRow (holds schema.now.columns.items (view e.now)) (pointed rows.now) row × (text ≡ texts.found_text schema.now.columns.items row)) (IsRun abort_flag (verdict_on schema.now.columns.items (view e.now)) (pointed rows.now) level) result }
+    requires manner { IsManner (R.manner runner.now) }
+    ensures { Gives (fault_of abort_flag (map (verdict_on schema.now.columns.items (view e.now)) (pointed rows.now))) (λ text. (row : Option OneRow) × IsFoundRow (holds schema.now.columns.items (view e.now)) (pointed rows.now) row × (text ≡ texts.found_text schema.now.columns.items row)) (IsRun abort_flag (verdict_on schema.now.columns.items (view e.now)) (pointed rows.now) (R.manner runner.now)) result }
 {
     let test = Condition::bind(alloc, e, schema)?;
     let source = CopySplitter::new(rows);
-    let (tried, audit) = find_alone(alloc, source, &test, level, gate)?;
+    let (tried, audit) = find_by(runner, alloc, source, &test)?;
     match tried {
         Tried::Got(place) => {
             let row = row_at(rows, place);
@@ -69,22 +68,21 @@ pub(crate) fn find<G: Gate>(
 }
 
 /// Whether a row passes.
-pub(crate) fn exists<G: Gate>(
+pub(crate) fn exists<R: Runner>(
+    runner: &R,
     alloc: Global,
     e: &Expr,
     schema: &Schema,
     rows: &[&Row],
-    level: u32,
-    gate: &G,
 ) -> Result<Told, StepStop>
     requires kind { fits schema.now.columns.items TruthWanted (view e.now) ≡ true }
     requires small { length rows.now ≤ 4194304 }
-    requires level { (1 ≤ level) × (level ≤ 64) }
-    ensures { Gives (fault_of abort_flag (map (verdict_on schema.now.columns.items (view e.now)) (pointed rows.now))) (λ text. text ≡ texts.truth_text (list_any (holds schema.now.columns.items (view e.now)) (pointed rows.now))) (IsRun abort_flag (verdict_on schema.now.columns.items (view e.now)) (pointed rows.now) level) result }
+    requires manner { IsManner (R.manner runner.now) }
+    ensures { Gives (fault_of abort_flag (map (verdict_on schema.now.columns.items (view e.now)) (pointed rows.now))) (λ text. text ≡ texts.truth_text (list_any (holds schema.now.columns.items (view e.now)) (pointed rows.now))) (IsRun abort_flag (verdict_on schema.now.columns.items (view e.now)) (pointed rows.now) (R.manner runner.now)) result }
 {
     let test = Condition::bind(alloc, e, schema)?;
     let source = CopySplitter::new(rows);
-    let (tried, audit) = exists_alone(alloc, source, &test, level, gate)?;
+    let (tried, audit) = exists_by(runner, alloc, source, &test)?;
     match tried {
         Tried::Got(passes) => Ok((texts::truth(alloc, passes)?, Some(audit))),
         Tried::Fault(fault) => Err(StepStop::Fault(fault)),
@@ -92,22 +90,21 @@ pub(crate) fn exists<G: Gate>(
 }
 
 /// Whether each row passes.
-pub(crate) fn forall<G: Gate>(
+pub(crate) fn forall<R: Runner>(
+    runner: &R,
     alloc: Global,
     e: &Expr,
     schema: &Schema,
     rows: &[&Row],
-    level: u32,
-    gate: &G,
 ) -> Result<Told, StepStop>
     requires kind { fits schema.now.columns.items TruthWanted (view e.now) ≡ true }
     requires small { length rows.now ≤ 4194304 }
-    requires level { (1 ≤ level) × (level ≤ 64) }
-    ensures { Gives (fault_of abort_flag (map (denied schema.now.columns.items (view e.now)) (pointed rows.now))) (λ text. text ≡ texts.truth_text (list_all (holds schema.now.columns.items (view e.now)) (pointed rows.now))) (IsRun abort_flag (denied schema.now.columns.items (view e.now)) (pointed rows.now) level) result }
+    requires manner { IsManner (R.manner runner.now) }
+    ensures { Gives (fault_of abort_flag (map (denied schema.now.columns.items (view e.now)) (pointed rows.now))) (λ text. text ≡ texts.truth_text (list_all (holds schema.now.columns.items (view e.now)) (pointed rows.now))) (IsRun abort_flag (denied schema.now.columns.items (view e.now)) (pointed rows.now) (R.manner runner.now)) result }
 {
     let test = Condition::bind(alloc, e, schema)?;
     let source = CopySplitter::new(rows);
-    let (tried, audit) = forall_alone(alloc, source, &test, level, gate)?;
+    let (tried, audit) = forall_by(runner, alloc, source, &test)?;
     match tried {
         Tried::Got(pass) => Ok((texts::truth(alloc, pass)?, Some(audit))),
         Tried::Fault(fault) => Err(StepStop::Fault(fault)),
@@ -115,22 +112,21 @@ pub(crate) fn forall<G: Gate>(
 }
 
 /// The index of the first row that passes, or -1.
-pub(crate) fn index_where<G: Gate>(
+pub(crate) fn index_where<R: Runner>(
+    runner: &R,
     alloc: Global,
     e: &Expr,
     schema: &Schema,
     rows: &[&Row],
-    level: u32,
-    gate: &G,
 ) -> Result<Told, StepStop>
     requires kind { fits schema.now.columns.items TruthWanted (view e.now) ≡ true }
     requires small { length rows.now ≤ 4194304 }
-    requires level { (1 ≤ level) × (level ≤ 64) }
-    ensures { Gives (fault_of low_flag (map (verdict_on schema.now.columns.items (view e.now)) (pointed rows.now))) (λ text. text ≡ texts.number_text (index_where (holds schema.now.columns.items (view e.now)) (pointed rows.now))) (IsRun low_flag (verdict_on schema.now.columns.items (view e.now)) (pointed rows.now) level) result }
+    requires manner { IsManner (R.manner runner.now) }
+    ensures { Gives (fault_of low_flag (map (verdict_on schema.now.columns.items (view e.now)) (pointed rows.now))) (λ text. text ≡ texts.number_text (index_where (holds schema.now.columns.items (view e.now)) (pointed rows.now))) (IsRun low_flag (verdict_on schema.now.columns.items (view e.now)) (pointed rows.now) (R.manner runner.now)) result }
 {
     let test = Condition::bind(alloc, e, schema)?;
     let source = CopySplitter::new(rows);
-    let (tried, audit) = index_where_alone(alloc, source, &test, level, gate)?;
+    let (tried, audit) = index_where_by(runner, alloc, source, &test)?;
     match tried {
         Tried::Got(index) => Ok((texts::number(alloc, index)?, Some(audit))),
         Tried::Fault(fault) => Err(StepStop::Fault(fault)),
@@ -138,22 +134,21 @@ pub(crate) fn index_where<G: Gate>(
 }
 
 /// The index of the last row that passes, or -1.
-pub(crate) fn last_index_where<G: Gate>(
+pub(crate) fn last_index_where<R: Runner>(
+    runner: &R,
     alloc: Global,
     e: &Expr,
     schema: &Schema,
     rows: &[&Row],
-    level: u32,
-    gate: &G,
 ) -> Result<Told, StepStop>
     requires kind { fits schema.now.columns.items TruthWanted (view e.now) ≡ true }
     requires small { length rows.now ≤ 4194304 }
-    requires level { (1 ≤ level) × (level ≤ 64) }
-    ensures { Gives (fault_of high_flag (map (verdict_on schema.now.columns.items (view e.now)) (pointed rows.now))) (λ text. text ≡ texts.number_text (last_index_where (holds schema.now.columns.items (view e.now)) (pointed rows.now))) (IsRun high_flag (verdict_on schema.now.columns.items (view e.now)) (pointed rows.now) level) result }
+    requires manner { IsManner (R.manner runner.now) }
+    ensures { Gives (fault_of high_flag (map (verdict_on schema.now.columns.items (view e.now)) (pointed rows.now))) (λ text. text ≡ texts.number_text (last_index_where (holds schema.now.columns.items (view e.now)) (pointed rows.now))) (IsRun high_flag (verdict_on schema.now.columns.items (view e.now)) (pointed rows.now) (R.manner runner.now)) result }
 {
     let test = Condition::bind(alloc, e, schema)?;
     let source = CopySplitter::new(rows);
-    let (tried, audit) = last_index_where_alone(alloc, source, &test, level, gate)?;
+    let (tried, audit) = last_index_where_by(runner, alloc, source, &test)?;
     match tried {
         Tried::Got(index) => Ok((texts::number(alloc, index)?, Some(audit))),
         Tried::Fault(fault) => Err(StepStop::Fault(fault)),
@@ -161,25 +156,24 @@ pub(crate) fn last_index_where<G: Gate>(
 }
 
 /// How many rows in a row pass, from an index on. A negative index counts as 0.
-pub(crate) fn segment_length<G: Gate>(
+pub(crate) fn segment_length<R: Runner>(
+    runner: &R,
     alloc: Global,
     e: &Expr,
     from: i64,
     schema: &Schema,
     rows: &[&Row],
-    level: u32,
-    gate: &G,
 ) -> Result<Told, StepStop>
     requires kind { fits schema.now.columns.items TruthWanted (view e.now) ≡ true }
     requires small { length rows.now ≤ 4194304 }
-    requires level { (1 ≤ level) × (level ≤ 64) }
-    ensures { Gives (fault_at (map (verdict_on schema.now.columns.items (view e.now)) (pointed rows.now)) (place from + segment_length (holds schema.now.columns.items (view e.now)) (place from) (pointed rows.now))) (λ text. text ≡ texts.count_text (segment_length (holds schema.now.columns.items (view e.now)) (place from) (pointed rows.now))) (IsRun low_flag (denied schema.now.columns.items (view e.now)) (drop (place from) (pointed rows.now)) level) result }
+    requires manner { IsManner (R.manner runner.now) }
+    ensures { Gives (fault_at (map (verdict_on schema.now.columns.items (view e.now)) (pointed rows.now)) (place from + segment_length (holds schema.now.columns.items (view e.now)) (place from) (pointed rows.now))) (λ text. text ≡ texts.count_text (segment_length (holds schema.now.columns.items (view e.now)) (place from) (pointed rows.now))) (IsRun low_flag (denied schema.now.columns.items (view e.now)) (drop (place from) (pointed rows.now)) (R.manner runner.now)) result }
 {
     let test = Condition::bind(alloc, e, schema)?;
     let source = CopySplitter::new(rows);
-    let (tried, audit) = segment_length_alone(alloc, source, &test, from, level, gate)?;
+    let (tried, audit) = segment_length_by(runner, alloc, source, &test, from)?;
     match tried {
-        Tried::Got(length) => Ok((texts::count(alloc, u64::from(length))?, Some(audit))),
+        Tried::Got(length) => Ok((texts::count(runner, alloc, u64::from(length))?, Some(audit))),
         Tried::Fault(fault) => Err(StepStop::Fault(fault)),
     }
 }

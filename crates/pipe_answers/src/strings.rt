@@ -11,14 +11,15 @@ ghost use Rattle.pipe_stages.specs.Audits.{IsRun};
 ghost use Rattle.pipe_stages.specs.Rows.{pointed};
 ghost use Rattle.pipe_answers.specs.Lasts.{Gives, separated_by};
 ghost use Rattle.pipe_answers.specs.Makes.{made_fault, made_values};
+ghost use Rattle.par_task.specs.Manners.{IsManner};
 ghost use Rattle.pipe_answers.specs.Texts as texts;
 
 use crate::made::{Present, fold_made};
 use crate::numbers::Told;
 use crate::texts::word;
-use par_edge::Gate;
 use par_laws::{Joined, Keep, Memory, Words};
 use par_rows::{Row, Schema};
+use par_task::Runner;
 use pipe_eval::Shown;
 use pipe_expr::Expr;
 use pipe_stages::StepStop;
@@ -35,25 +36,24 @@ fn joined_text(alloc: Global, joined: Option<Words>) -> Result<Vec<u8>, Memory>
 }
 
 /// The texts of the rows' values, with a separator between them.
-pub(crate) fn mk_string<G: Gate>(
+pub(crate) fn mk_string<R: Runner>(
+    runner: &R,
     alloc: Global,
     e: &Expr,
     sep: &Words,
     schema: &Schema,
     rows: &[&Row],
-    level: u32,
-    gate: &G,
 ) -> Result<Told, StepStop>
     requires kind { fits schema.now.columns.items ShownWanted (view e.now) ≡ true }
     requires small { length rows.now ≤ 4194304 }
-    requires level { (1 ≤ level) × (level ≤ 64) }
-    ensures { Gives (made_fault (map (text_made schema.now.columns.items (view e.now)) (pointed rows.now))) (λ text. text ≡ texts.line (encode_utf8_all (separated_by sep.now (made_values (map (text_made schema.now.columns.items (view e.now)) (pointed rows.now)))))) (IsRun no_test untested (pointed rows.now) level) result }
+    requires manner { IsManner (R.manner runner.now) }
+    ensures { Gives (made_fault (map (text_made schema.now.columns.items (view e.now)) (pointed rows.now))) (λ text. text ≡ texts.line (encode_utf8_all (separated_by sep.now (made_values (map (text_made schema.now.columns.items (view e.now)) (pointed rows.now)))))) (IsRun no_test untested (pointed rows.now) (R.manner runner.now)) result }
 {
     let texts = Shown::bind(alloc, e, schema)?;
     let present = Present { of: &texts };
     let how = Joined {
         sep: sep.copy(alloc)?,
     };
-    let (joined, audit) = fold_made(alloc, &how, &present, rows, level, gate)?;
+    let (joined, audit) = fold_made(runner, alloc, &how, &present, rows)?;
     Ok((joined_text(alloc, joined)?, Some(audit)))
 }

@@ -1,4 +1,4 @@
-//! A run of a pipeline on one thread, and a check of one.
+//! A run of a pipeline, on several threads or on one, and a check of one.
 ghost use Rattle.std.specs.Prelude.{◌≡◌, ◌≢◌, ◌≤◌, length, IfOk, OnOk};
 ghost use Rattle.pipe_program.specs.Plans.{plan as plan_of};
 ghost use Rattle.pipe_program.specs.Reading.{Reads};
@@ -8,6 +8,8 @@ ghost use Rattle.pipe_run.specs.Endings.{Ends, IsWrittenAs};
 ghost use Rattle.pipe_run.specs.Rulings.{Answers, Decides, ok_map};
 ghost use Rattle.pipe_run.specs.Rests.{IsOpening};
 ghost use Rattle.pipe_run.specs.Runs.{whole_text};
+ghost use Rattle.par_task.specs.Manners.{IsManner, alone};
+ghost use Rattle.par_pool.specs.Plans.{planned};
 ghost use Rattle.pipe_run.specs.Sources.{AreBuilt, named};
 
 use crate::Outcome;
@@ -17,11 +19,15 @@ use crate::sources::read_source;
 use crate::stages::{Rest, run_stages};
 use par_edge::{Gate, Shelf, Sink, write_whole};
 use par_laws::Memory;
+use par_pool::{Plan, Pool};
 use par_rows::Row;
+use par_task::{Alone, Runner};
 use pipe_answers::{StageAudit, write_audits};
 use pipe_print::print;
 use pipe_program::{Pipeline, schema_after, text_laws};
 use std::alloc::Global;
+use std::sync::Wait;
+use std::thread::Threads;
 
 // All that is to run of a pipeline behind its source.
 fn opening<'p>(alloc: Global, pipeline: &'p Pipeline) -> Result<Rest<'p>, Memory>
@@ -46,31 +52,31 @@ fn add_audits(answer: &mut Vec<u8>, audit: bool, audits: &[StageAudit]) -> Resul
 }
 
 // The text of the answer over the rows of the source, with the audits behind it where they are wanted.
-fn told_text<G: Gate + Sync>(
+fn told_text<R: Runner>(
+    runner: &R,
     alloc: Global,
     text: &[u8],
     pipeline: &Pipeline,
     rows: Vec<Row>,
     audit: bool,
-    level: u32,
-    gate: &G,
 ) -> Result<Vec<u8>, Outcome>
     requires reads { Reads text.now (plan_of pipeline.now) }
     requires built { AreBuilt (plan_of pipeline.now).middles (plan_of pipeline.now).last }
     requires small { length rows.items ≤ 4194304 }
-    requires level { (1 ≤ level) × (level ≤ 64) }
-    ensures { Decides (IsToldText level audit (plan_of pipeline.now) rows.items) (ok_map (λ v. v.items) result) }
+    requires manner { IsManner (R.manner runner.now) }
+    ensures { Decides (IsToldText (R.manner runner.now) audit (plan_of pipeline.now) rows.items) (ok_map (λ v. v.items) result) }
 {
     text_laws();
     let rest = opening(alloc, pipeline)?;
     let mut audits = Vec::new(alloc);
-    let mut answer = run_stages(alloc, rest, rows, level, gate, &mut audits)?;
+    let mut answer = run_stages(runner, alloc, rest, rows, &mut audits)?;
     add_audits(&mut answer, audit, &audits)?;
     Ok(answer)
 }
 
 // The text of a run.
-fn answer_text<H: Shelf, G: Gate + Sync>(
+fn answer_text<H: Shelf, R: Runner>(
+    runner: &R,
     alloc: Global,
     pipe: &str,
     input: Option<&str>,
@@ -79,8 +85,8 @@ fn answer_text<H: Shelf, G: Gate + Sync>(
     shelf: &mut H,
     gate: &G,
 ) -> Result<Vec<u8>, Outcome>
-    requires { (1 ≤ level) × (level ≤ 64) }
-    ensures { Answers (IsAnswered (record { pipe = pipe.now; input = named input.entry; level = level; audit = audit })) (H.state shelf.old) (H.state shelf.new) (ok_map (λ v. v.items) result) }
+    requires { (1 ≤ (R.manner runner.now)) × ((R.manner runner.now) ≤ 64) }
+    ensures { Answers (IsAnswered (record { pipe = pipe.now; input = named input.entry; manner = R.manner runner.now; audit = audit })) (H.state shelf.old) (H.state shelf.new) (ok_map (λ v. v.items) result) }
 {
     text_laws();
     let text = read_pipeline(alloc, shelf, pipe)?;
@@ -88,7 +94,7 @@ fn answer_text<H: Shelf, G: Gate + Sync>(
     check_given(alloc, &text, &pipeline, input)?;
     check_built(alloc, &text, &pipeline)?;
     let rows = read_source(alloc, shelf, &pipeline.source, input)?;
-    told_text(alloc, &text, &pipeline, rows, audit, level, gate)
+    told_text(runner, alloc, &text, &pipeline, rows, audit)
 }
 
 // The canonical text of the pipeline in the named file.
@@ -113,10 +119,48 @@ fn write_text<O: Sink>(text: Result<Vec<u8>, Outcome>, out: &mut O) -> Outcome
     }
 }
 
-/// Runs the pipeline in the named file over the named input on one thread, and writes its answer, with the audits behind
-/// it where they are wanted. A source that is a range reads no data.
+// Runs the pipeline in the named file over the named input, and writes its answer.
+fn run_by<H: Shelf, O: Sink, R: Runner>(
+    runner: &R,
+    alloc: Global,
+    pipe: &str,
+    input: Option<&str>,
+    audit: bool,
+    shelf: &mut H,
+    out: &mut O,
+) -> Outcome
+    requires { IsManner (R.manner runner.now) }
+    ensures ends { Ends (IsAnswered (record { pipe = pipe.now; input = named input.entry; manner = R.manner runner.now; audit = audit })) (H.state shelf.old) (H.state shelf.new) (O.state out.old) (O.state out.new) result }
+    ensures lawful { result ≢ is.Usage }
+{
+    let text = answer_text(runner, alloc, pipe, input, audit, shelf);
+    write_text(text, out)
+}
+
+/// Runs the pipeline in the named file over the named input on several threads, and writes its answer, with the audits
+/// behind it where they are wanted. A source that is a range reads no data.
 ///
-/// The whole text is built before the first byte is written.
+/// The answer is that of one thread, but that `find` may name another row that passes. The whole text is built before the
+/// first byte is written.
+pub fn run_main<H: Shelf, O: Sink, G: Gate + Sync, T: Threads + Wait + Sync>(
+    rt: &T,
+    alloc: Global,
+    pipe: &str,
+    input: Option<&str>,
+    audit: bool,
+    shelf: &mut H,
+    out: &mut O,
+    plan: &Plan<'_, G>,
+) -> Outcome
+    requires { (1 ≤ plan.now.workers) × (plan.now.workers ≤ 64) × (1 ≤ plan.now.level) × (plan.now.level ≤ 64) }
+    ensures ends { Ends (IsAnswered (record { pipe = pipe.now; input = named input.entry; manner = planned plan.now.workers plan.now.level; audit = audit })) (H.state shelf.old) (H.state shelf.new) (O.state out.old) (O.state out.new) result }
+    ensures lawful { result ≢ is.Usage }
+{
+    let pool = Pool { rt, plan };
+    run_by(&pool, alloc, pipe, input, audit, shelf, out)
+}
+
+/// Runs the pipeline in the named file over the named input on the caller's thread alone, as `run_main` does on several.
 pub fn run_alone_main<H: Shelf, O: Sink, G: Gate + Sync>(
     alloc: Global,
     pipe: &str,
@@ -128,11 +172,11 @@ pub fn run_alone_main<H: Shelf, O: Sink, G: Gate + Sync>(
     gate: &G,
 ) -> Outcome
     requires { (1 ≤ level) × (level ≤ 64) }
-    ensures ends { Ends (IsAnswered (record { pipe = pipe.now; input = named input.entry; level = level; audit = audit })) (H.state shelf.old) (H.state shelf.new) (O.state out.old) (O.state out.new) result }
+    ensures ends { Ends (IsAnswered (record { pipe = pipe.now; input = named input.entry; manner = alone level; audit = audit })) (H.state shelf.old) (H.state shelf.new) (O.state out.old) (O.state out.new) result }
     ensures lawful { result ≢ is.Usage }
 {
-    let text = answer_text(alloc, pipe, input, audit, level, shelf, gate);
-    write_text(text, out)
+    let alone = Alone { level, gate };
+    run_by(&alone, alloc, pipe, input, audit, shelf, out)
 }
 
 /// Writes the canonical text of the pipeline in the named file.

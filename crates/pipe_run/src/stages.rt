@@ -4,13 +4,13 @@ ghost use Rattle.pipe_steps.specs.Said.{last_view, middle_view};
 ghost use Rattle.pipe_stages.specs.Rows.{listed, pointed};
 ghost use Rattle.pipe_run.specs.Rests.{IsBehind, IsReady, IsRunOf, Notes, Reaches, items_told, last_told};
 ghost use Rattle.pipe_run.specs.Runs.{last_name as name_of_end, step_name as name_of_middle, stage_outcome as outcome_of, IsTold};
+ghost use Rattle.par_task.specs.Manners.{IsManner};
 ghost use Rattle.pipe_run.specs.Rulings.{IsInner, UnlessFree};
 
 use crate::{Counted, Outcome};
-use par_edge::Gate;
 use par_laws::Memory;
 use par_rows::{Row, Schema};
-use par_task::Audit;
+use par_task::{Audit, Runner};
 use pipe_answers::{StageAudit, run_last};
 use pipe_checks::step_columns;
 use pipe_stages::{StepStop, Stepped, run_step};
@@ -182,22 +182,21 @@ fn behind<'p>(
 }
 
 // Runs the last step.
-fn run_end<G: Gate + Sync>(
+fn run_end<R: Runner>(
+    runner: &R,
     alloc: Global,
     rest: &Rest<'_>,
     rows: &[&Row],
-    level: u32,
-    gate: &G,
     audits: &mut Vec<StageAudit>,
 ) -> Result<Vec<u8>, Outcome>
     requires ready { IsReady rest.now }
     requires over { rest.now.steps.now ≡ [] }
     requires small { length rows.now ≤ 4194304 }
-    requires level { (1 ≤ level) × (level ≤ 64) }
-    ensures text { IfOk result (λ text. Notes audits.old.items audits.new.items (λ told. IsRunOf level rest.now (pointed rows.now) (Ok (text.items, told)))) }
-    ensures stopped { IfErr result (λ o. IsInner o × UnlessFree o (IsRunOf level rest.now (pointed rows.now) (Err o))) }
+    requires manner { IsManner (R.manner runner.now) }
+    ensures text { IfOk result (λ text. Notes audits.old.items audits.new.items (λ told. IsRunOf (R.manner runner.now) rest.now (pointed rows.now) (Ok (text.items, told)))) }
+    ensures stopped { IfErr result (λ o. IsInner o × UnlessFree o (IsRunOf (R.manner runner.now) rest.now (pointed rows.now) (Err o))) }
 {
-    match run_last(alloc, rest.last, &rest.schema, rows, level, gate) {
+    match run_last(runner, alloc, rest.last, &rest.schema, rows) {
         Ok((text, audit)) => {
             let (name, items) = (last_name(rest.last), last_items(rest.last, rows.len()));
             note(audits, rest.number, name, items, audit)?;
@@ -208,24 +207,23 @@ fn run_end<G: Gate + Sync>(
 }
 
 // Runs steps over picks of one table, up to one that makes rows of its own, or to the end.
-fn run_picks<'p, G: Gate + Sync>(
+fn run_picks<'p, R: Runner>(
+    runner: &R,
     alloc: Global,
     rest: Rest<'p>,
     rows: &[&Row],
-    level: u32,
-    gate: &G,
     audits: &mut Vec<StageAudit>,
 ) -> Result<Reached<'p>, Outcome>
     requires ready { IsReady rest }
     requires small { length rows.now ≤ 4194304 }
-    requires level { (1 ≤ level) × (level ≤ 64) }
-    ensures reached { IfOk result (λ reached. Notes audits.old.items audits.new.items (λ told. Reaches level rest.entry (pointed rows.now) told reached)) }
-    ensures stopped { IfErr result (λ o. IsInner o × UnlessFree o (IsRunOf level rest.entry (pointed rows.now) (Err o))) }
+    requires manner { IsManner (R.manner runner.now) }
+    ensures reached { IfOk result (λ reached. Notes audits.old.items audits.new.items (λ told. Reaches (R.manner runner.now) rest.entry (pointed rows.now) told reached)) }
+    ensures stopped { IfErr result (λ o. IsInner o × UnlessFree o (IsRunOf (R.manner runner.now) rest.entry (pointed rows.now) (Err o))) }
 {
     let Some((step, steps)) = rest.steps.split_first() else {
-        return Ok(Reached::Answer(run_end(alloc, &rest, rows, level, gate, audits)?));
+        return Ok(Reached::Answer(run_end(runner, alloc, &rest, rows, audits)?));
     };
-    let (stepped, audit) = match run_step(alloc, step, &rest.schema, rows, level, gate) {
+    let (stepped, audit) = match run_step(runner, alloc, step, &rest.schema, rows) {
         Ok(ran) => ran,
         Err(stop) => return Err(stage_outcome(rest.number, stop)),
     };
@@ -233,7 +231,7 @@ fn run_picks<'p, G: Gate + Sync>(
     note(audits, rest.number, step_name(step), items, audit)?;
     let rest = behind(alloc, rest.number, &rest.schema, step, steps, rest.last)?;
     match stepped {
-        Stepped::Picked(picks) => run_picks(alloc, rest, &picks, level, gate, audits),
+        Stepped::Picked(picks) => run_picks(runner, alloc, rest, &picks, audits),
         Stepped::Made(table) => Ok(Reached::Table(table, rest)),
     }
 }
@@ -246,44 +244,42 @@ fn all_rows(alloc: Global, table: &[Row]) -> Result<Vec<&Row>, Memory>
 }
 
 // Runs steps over all rows of a table, as far as `run_picks` goes.
-fn run_table<'p, G: Gate + Sync>(
+fn run_table<'p, R: Runner>(
+    runner: &R,
     alloc: Global,
     rest: Rest<'p>,
     table: &[Row],
-    level: u32,
-    gate: &G,
     audits: &mut Vec<StageAudit>,
 ) -> Result<Reached<'p>, Outcome>
     requires ready { IsReady rest }
     requires small { length table.now ≤ 4194304 }
-    requires level { (1 ≤ level) × (level ≤ 64) }
-    ensures reached { IfOk result (λ reached. Notes audits.old.items audits.new.items (λ told. Reaches level rest.entry table.now told reached)) }
-    ensures stopped { IfErr result (λ o. IsInner o × UnlessFree o (IsRunOf level rest.entry table.now (Err o))) }
+    requires manner { IsManner (R.manner runner.now) }
+    ensures reached { IfOk result (λ reached. Notes audits.old.items audits.new.items (λ told. Reaches (R.manner runner.now) rest.entry table.now told reached)) }
+    ensures stopped { IfErr result (λ o. IsInner o × UnlessFree o (IsRunOf (R.manner runner.now) rest.entry table.now (Err o))) }
 {
     let rows = all_rows(alloc, table)?;
-    run_picks(alloc, rest, &rows, level, gate, audits)
+    run_picks(runner, alloc, rest, &rows, audits)
 }
 
 /// Runs what is left of a pipeline over the rows of a table, and notes the audits in step order. A table is dropped once
 /// the rows that a step made of it are there; the rows of a table are not copied where steps only pick or reorder them.
-pub fn run_stages<G: Gate + Sync>(
+pub fn run_stages<R: Runner>(
+    runner: &R,
     alloc: Global,
     rest: Rest<'_>,
     table: Vec<Row>,
-    level: u32,
-    gate: &G,
     audits: &mut Vec<StageAudit>,
 ) -> Result<Vec<u8>, Outcome>
     requires ready { IsReady rest }
     requires small { length table.items ≤ 4194304 }
-    requires level { (1 ≤ level) × (level ≤ 64) }
-    ensures text { IfOk result (λ text. Notes audits.old.items audits.new.items (λ told. IsRunOf level rest.entry table.items (Ok (text.items, told)))) }
-    ensures stopped { IfErr result (λ o. IsInner o × UnlessFree o (IsRunOf level rest.entry table.items (Err o))) }
+    requires manner { IsManner (R.manner runner.now) }
+    ensures text { IfOk result (λ text. Notes audits.old.items audits.new.items (λ told. IsRunOf (R.manner runner.now) rest.entry table.items (Ok (text.items, told)))) }
+    ensures stopped { IfErr result (λ o. IsInner o × UnlessFree o (IsRunOf (R.manner runner.now) rest.entry table.items (Err o))) }
 {
-    let reached = run_table(alloc, rest, &table, level, gate, audits)?;
+    let reached = run_table(runner, alloc, rest, &table, audits)?;
     drop(table);
     match reached {
         Reached::Answer(text) => Ok(text),
-        Reached::Table(made, behind) => run_stages(alloc, behind, made, level, gate, audits),
+        Reached::Table(made, behind) => run_stages(runner, alloc, behind, made, audits),
     }
 }

@@ -14,6 +14,7 @@ ghost use Rattle.pipe_stages.specs.Audits.{IsRun};
 ghost use Rattle.pipe_stages.specs.Ranges.{AreFirst};
 ghost use Rattle.pipe_stages.specs.Rows.{pointed};
 ghost use Rattle.pipe_stages.specs.Runs.{Gives, collected_run, made_run};
+ghost use Rattle.par_task.specs.Manners.{IsManner};
 ghost use Rattle.pipe_stages.specs.Stages.{each_made, filtered, indexed, made_by, ranged, then_made, with_last};
 
 use crate::picking::{Ran, Source};
@@ -21,12 +22,11 @@ use crate::picks::CopySplitter;
 use crate::stepped::Stepped;
 use crate::stop::StepStop;
 use par_combiner::{ArrayCombiner, Faulted, Yield};
-use par_edge::Gate;
 use par_laws::{FaultAt, Keep, Mapper, Memory, Tried};
 use par_rows::{Row, Schema, Value, Values};
 use par_splitter::{RangeSplitter, Splitter, range_count};
-use par_task::Audit;
-use par_transform::{collect_alone, map_alone, zip_alone, zip_with_index_alone};
+use par_task::{Audit, Runner};
+use par_transform::{collect_by, map_by, zip_by, zip_with_index_by};
 use pipe_eval::{Condition, Maker};
 use pipe_expr::Expr;
 use pipe_steps::Named;
@@ -56,48 +56,44 @@ fn collected<'a>(kept: Tried<Yield<Vec<Row>>>, audit: Audit) -> Result<Ran<'a>, 
 }
 
 /// The row of each row's values.
-pub(crate) fn map<'a, G: Gate>(
+pub(crate) fn map<'a, R: Runner>(
+    runner: &R,
     alloc: Global,
     fields: &[Named],
     schema: &Schema,
     rows: &[&'a Row],
-    level: u32,
-    gate: &G,
 ) -> Result<Ran<'a>, StepStop>
     requires kinds { fields_pass (fits schema.now.columns.items) (map named_view fields.now) ≡ true }
     requires small { length rows.now ≤ 4194304 }
-    requires level { (1 ≤ level) × (level ≤ 64) }
-    ensures { Gives (each_made (made_by schema.now.columns.items (map named_view fields.now)) (pointed rows.now)) (IsRun no_test untested (pointed rows.now) level) result }
+    requires manner { IsManner (R.manner runner.now) }
+    ensures { Gives (each_made (made_by schema.now.columns.items (map named_view fields.now)) (pointed rows.now)) (IsRun no_test untested (pointed rows.now) (R.manner runner.now)) result }
 {
     let maker = Maker::bind(alloc, fields, schema)?;
     let source = CopySplitter::new(rows);
-    let (all, audit) = map_alone::<Source<'_, 'a>, Makes, G, Maker>(
-        alloc, source, &maker, level, gate,
-    )?;
+    let (all, audit) = map_by::<Source<'_, 'a>, Makes, R, Maker>(runner, alloc, source, &maker)?;
     made(all, audit)
 }
 
 /// The row of the values of each row that passes.
-pub(crate) fn collect<'a, G: Gate>(
+pub(crate) fn collect<'a, R: Runner>(
+    runner: &R,
     alloc: Global,
     fields: &[Named],
     e: &Expr,
     schema: &Schema,
     rows: &[&'a Row],
-    level: u32,
-    gate: &G,
 ) -> Result<Ran<'a>, StepStop>
     requires kinds { fields_pass (fits schema.now.columns.items) (map named_view fields.now) ≡ true }
     requires kind { fits schema.now.columns.items TruthWanted (view e.now) ≡ true }
     requires small { length rows.now ≤ 4194304 }
-    requires level { (1 ≤ level) × (level ≤ 64) }
-    ensures { Gives (then_made (made_by schema.now.columns.items (map named_view fields.now)) (filtered schema.now.columns.items (view e.now) (pointed rows.now))) (IsRun no_flag (verdict_on schema.now.columns.items (view e.now)) (pointed rows.now) level) result }
+    requires manner { IsManner (R.manner runner.now) }
+    ensures { Gives (then_made (made_by schema.now.columns.items (map named_view fields.now)) (filtered schema.now.columns.items (view e.now) (pointed rows.now))) (IsRun no_flag (verdict_on schema.now.columns.items (view e.now)) (pointed rows.now) (R.manner runner.now)) result }
 {
     let test = Condition::bind(alloc, e, schema)?;
     let maker = Maker::bind(alloc, fields, schema)?;
     let source = CopySplitter::new(rows);
-    let (kept, audit) = collect_alone::<Source<'_, 'a>, Makes, G, Condition, Maker>(
-        alloc, source, &test, &maker, level, gate,
+    let (kept, audit) = collect_by::<Source<'_, 'a>, Makes, R, Condition, Maker>(
+        runner, alloc, source, &test, &maker,
     )?;
     collected(kept, audit)
 }
@@ -142,23 +138,21 @@ fn with_number(alloc: Global, row: &Row, number: i64) -> Result<Row, Memory>
 }
 
 /// Each row with its index as last value.
-pub(crate) fn zip_with_index<'a, G: Gate>(
+pub(crate) fn zip_with_index<'a, R: Runner>(
+    runner: &R,
     alloc: Global,
     rows: &[&'a Row],
-    level: u32,
-    gate: &G,
 ) -> Result<Ran<'a>, StepStop>
     requires small { length rows.now ≤ 4194304 }
-    requires level { (1 ≤ level) × (level ≤ 64) }
-    ensures { Gives (Ok (indexed (pointed rows.now))) (IsRun no_test untested (pointed rows.now) level) result }
+    requires manner { IsManner (R.manner runner.now) }
+    ensures { Gives (Ok (indexed (pointed rows.now))) (IsRun no_test untested (pointed rows.now) (R.manner runner.now)) result }
 {
     let source = CopySplitter::new(rows);
-    let (all, audit) = zip_with_index_alone::<Source<'_, 'a>, ArrayCombiner<Row>, G, WithNumber>(
+    let (all, audit) = zip_with_index_by::<Source<'_, 'a>, ArrayCombiner<Row>, R, WithNumber>(
+        runner,
         alloc,
         source,
         &WithNumber,
-        level,
-        gate,
     )?;
     Ok((Stepped::Made(all), Some(audit)))
 }
@@ -184,28 +178,27 @@ fn first_numbers(a: i64, b: i64, c: i64, n: u32) -> RangeSplitter
 }
 
 /// Each row with a number of `a until b by c` as last value, as far as both go.
-pub(crate) fn zip_range<'a, G: Gate>(
+pub(crate) fn zip_range<'a, R: Runner>(
+    runner: &R,
     alloc: Global,
     a: i64,
     b: i64,
     c: i64,
     rows: &[&'a Row],
-    level: u32,
-    gate: &G,
 ) -> Result<Ran<'a>, StepStop>
     requires step { c ≢ pos 0 }
     requires small { length rows.now ≤ 4194304 }
-    requires level { (1 ≤ level) × (level ≤ 64) }
-    ensures { Gives (Ok (ranged a b c (pointed rows.now))) (IsRun no_test untested (ranged a b c (pointed rows.now)) level) result }
+    requires manner { IsManner (R.manner runner.now) }
+    ensures { Gives (Ok (ranged a b c (pointed rows.now))) (IsRun no_test untested (ranged a b c (pointed rows.now)) (R.manner runner.now)) result }
 {
     let numbers = first_numbers(a, b, c, rows.len() as u32);
     let source = CopySplitter::new(rows);
-    let (all, audit) = zip_alone::<
-        Source<'_, 'a>,
-        ArrayCombiner<Row>,
-        G,
-        RangeSplitter,
-        WithNumber,
-    >(alloc, source, numbers, &WithNumber, level, gate)?;
+    let (all, audit) = zip_by::<Source<'_, 'a>, ArrayCombiner<Row>, R, RangeSplitter, WithNumber>(
+        runner,
+        alloc,
+        source,
+        numbers,
+        &WithNumber,
+    )?;
     Ok((Stepped::Made(all), Some(audit)))
 }

@@ -10,19 +10,17 @@ ghost use Rattle.pipe_eval.specs.Answers.{verdict_on};
 ghost use Rattle.pipe_stages.specs.Audits.{IsRun};
 ghost use Rattle.pipe_stages.specs.Rows.{pointed};
 ghost use Rattle.pipe_stages.specs.Runs.{Gives, ran};
+ghost use Rattle.par_task.specs.Manners.{IsManner};
 ghost use Rattle.pipe_stages.specs.Stages.{denied, dropped_while, filtered, refused, taken_while};
 
 use crate::picks::CopySplitter;
 use crate::stepped::Stepped;
 use crate::stop::StepStop;
 use par_combiner::ArrayCombiner;
-use par_edge::Gate;
 use par_laws::{Mapper, Memory, Tried};
 use par_rows::{Row, Schema};
-use par_task::Audit;
-use par_transform::{
-    drop_while_alone, filter_alone, filter_not_alone, reverse_alone, take_while_alone,
-};
+use par_task::{Audit, Runner};
+use par_transform::{drop_while_by, filter_by, filter_not_by, reverse_by, take_while_by};
 use pipe_eval::Condition;
 use pipe_expr::Expr;
 use std::alloc::Global;
@@ -58,107 +56,102 @@ fn picked<'a>(tried: Tried<Vec<&'a Row>>, audit: Audit) -> Result<Ran<'a>, StepS
 }
 
 /// The rows that pass.
-pub(crate) fn filter<'a, G: Gate>(
+pub(crate) fn filter<'a, R: Runner>(
+    runner: &R,
     alloc: Global,
     e: &Expr,
     schema: &Schema,
     rows: &[&'a Row],
-    level: u32,
-    gate: &G,
 ) -> Result<Ran<'a>, StepStop>
     requires kind { fits schema.now.columns.items TruthWanted (view e.now) ≡ true }
     requires small { length rows.now ≤ 4194304 }
-    requires level { (1 ≤ level) × (level ≤ 64) }
-    ensures { Gives (filtered schema.now.columns.items (view e.now) (pointed rows.now)) (IsRun no_flag (verdict_on schema.now.columns.items (view e.now)) (pointed rows.now) level) result }
+    requires manner { IsManner (R.manner runner.now) }
+    ensures { Gives (filtered schema.now.columns.items (view e.now) (pointed rows.now)) (IsRun no_flag (verdict_on schema.now.columns.items (view e.now)) (pointed rows.now) (R.manner runner.now)) result }
 {
     let test = Condition::bind(alloc, e, schema)?;
     let source = CopySplitter::new(rows);
-    let (kept, audit) = filter_alone::<Source<'_, 'a>, Picks<'a>, G, Condition, Itself>(
-        alloc, source, &test, &Itself, level, gate,
+    let (kept, audit) = filter_by::<Source<'_, 'a>, Picks<'a>, R, Condition, Itself>(
+        runner, alloc, source, &test, &Itself,
     )?;
     picked(kept, audit)
 }
 
 /// The rows that don't pass.
-pub(crate) fn filter_not<'a, G: Gate>(
+pub(crate) fn filter_not<'a, R: Runner>(
+    runner: &R,
     alloc: Global,
     e: &Expr,
     schema: &Schema,
     rows: &[&'a Row],
-    level: u32,
-    gate: &G,
 ) -> Result<Ran<'a>, StepStop>
     requires kind { fits schema.now.columns.items TruthWanted (view e.now) ≡ true }
     requires small { length rows.now ≤ 4194304 }
-    requires level { (1 ≤ level) × (level ≤ 64) }
-    ensures { Gives (refused schema.now.columns.items (view e.now) (pointed rows.now)) (IsRun no_flag (verdict_on schema.now.columns.items (view e.now)) (pointed rows.now) level) result }
+    requires manner { IsManner (R.manner runner.now) }
+    ensures { Gives (refused schema.now.columns.items (view e.now) (pointed rows.now)) (IsRun no_flag (verdict_on schema.now.columns.items (view e.now)) (pointed rows.now) (R.manner runner.now)) result }
 {
     let test = Condition::bind(alloc, e, schema)?;
     let source = CopySplitter::new(rows);
-    let (kept, audit) = filter_not_alone::<Source<'_, 'a>, Picks<'a>, G, Condition, Itself>(
-        alloc, source, &test, &Itself, level, gate,
+    let (kept, audit) = filter_not_by::<Source<'_, 'a>, Picks<'a>, R, Condition, Itself>(
+        runner, alloc, source, &test, &Itself,
     )?;
     picked(kept, audit)
 }
 
 /// The longest prefix of rows that pass.
-pub(crate) fn take_while<'a, G: Gate>(
+pub(crate) fn take_while<'a, R: Runner>(
+    runner: &R,
     alloc: Global,
     e: &Expr,
     schema: &Schema,
     rows: &[&'a Row],
-    level: u32,
-    gate: &G,
 ) -> Result<Ran<'a>, StepStop>
     requires kind { fits schema.now.columns.items TruthWanted (view e.now) ≡ true }
     requires small { length rows.now ≤ 4194304 }
-    requires level { (1 ≤ level) × (level ≤ 64) }
-    ensures { Gives (taken_while schema.now.columns.items (view e.now) (pointed rows.now)) (IsRun low_flag (denied schema.now.columns.items (view e.now)) (pointed rows.now) level) result }
+    requires manner { IsManner (R.manner runner.now) }
+    ensures { Gives (taken_while schema.now.columns.items (view e.now) (pointed rows.now)) (IsRun low_flag (denied schema.now.columns.items (view e.now)) (pointed rows.now) (R.manner runner.now)) result }
 {
     let test = Condition::bind(alloc, e, schema)?;
     let source = CopySplitter::new(rows);
-    let (kept, audit) = take_while_alone::<Source<'_, 'a>, Picks<'a>, G, Condition, Itself>(
-        alloc, source, &test, &Itself, level, gate,
+    let (kept, audit) = take_while_by::<Source<'_, 'a>, Picks<'a>, R, Condition, Itself>(
+        runner, alloc, source, &test, &Itself,
     )?;
     picked(kept, audit)
 }
 
 /// What the longest prefix of rows that pass leaves.
-pub(crate) fn drop_while<'a, G: Gate>(
+pub(crate) fn drop_while<'a, R: Runner>(
+    runner: &R,
     alloc: Global,
     e: &Expr,
     schema: &Schema,
     rows: &[&'a Row],
-    level: u32,
-    gate: &G,
 ) -> Result<Ran<'a>, StepStop>
     requires kind { fits schema.now.columns.items TruthWanted (view e.now) ≡ true }
     requires small { length rows.now ≤ 4194304 }
-    requires level { (1 ≤ level) × (level ≤ 64) }
-    ensures { Gives (dropped_while schema.now.columns.items (view e.now) (pointed rows.now)) (IsRun low_flag (denied schema.now.columns.items (view e.now)) (pointed rows.now) level) result }
+    requires manner { IsManner (R.manner runner.now) }
+    ensures { Gives (dropped_while schema.now.columns.items (view e.now) (pointed rows.now)) (IsRun low_flag (denied schema.now.columns.items (view e.now)) (pointed rows.now) (R.manner runner.now)) result }
 {
     let test = Condition::bind(alloc, e, schema)?;
     let source = CopySplitter::new(rows);
-    let (kept, audit) = drop_while_alone::<Source<'_, 'a>, Picks<'a>, G, Condition, Itself>(
-        alloc, source, &test, &Itself, level, gate,
+    let (kept, audit) = drop_while_by::<Source<'_, 'a>, Picks<'a>, R, Condition, Itself>(
+        runner, alloc, source, &test, &Itself,
     )?;
     picked(kept, audit)
 }
 
 /// The last row first.
-pub(crate) fn reverse<'a, G: Gate>(
+pub(crate) fn reverse<'a, R: Runner>(
+    runner: &R,
     alloc: Global,
     rows: &[&'a Row],
-    level: u32,
-    gate: &G,
 ) -> Result<Ran<'a>, StepStop>
     requires small { length rows.now ≤ 4194304 }
-    requires level { (1 ≤ level) × (level ≤ 64) }
-    ensures { Gives (Ok (reverse (pointed rows.now))) (IsRun no_test untested (pointed rows.now) level) result }
+    requires manner { IsManner (R.manner runner.now) }
+    ensures { Gives (Ok (reverse (pointed rows.now))) (IsRun no_test untested (pointed rows.now) (R.manner runner.now)) result }
 {
     let source = CopySplitter::new(rows);
-    let (turned, audit) = reverse_alone::<Source<'_, 'a>, Picks<'a>, G, Itself>(
-        alloc, source, &Itself, level, gate,
+    let (turned, audit) = reverse_by::<Source<'_, 'a>, Picks<'a>, R, Itself>(
+        runner, alloc, source, &Itself,
     )?;
     Ok((Stepped::Picked(turned), Some(audit)))
 }

@@ -11,6 +11,7 @@ ghost use Rattle.pipe_stages.specs.Audits.{IsRun};
 ghost use Rattle.pipe_stages.specs.Pieces.{pieces};
 ghost use Rattle.pipe_stages.specs.Rows.{pointed};
 ghost use Rattle.pipe_stages.specs.Runs.{Gives};
+ghost use Rattle.par_task.specs.Manners.{IsManner};
 ghost use Rattle.pipe_stages.specs.Stages.{at_most, split_at_place};
 
 use crate::making::copy_values;
@@ -19,10 +20,10 @@ use crate::picks::CopySplitter;
 use crate::stepped::Stepped;
 use crate::stop::StepStop;
 use par_combiner::ArrayCombiner;
-use par_edge::Gate;
 use par_laws::{Mapper, Memory, Words};
 use par_rows::{Column, Row, Schema, Value, Values};
-use par_transform::flat_map_alone;
+use par_task::Runner;
+use par_transform::flat_map_by;
 use std::alloc::Global;
 
 // The place of the first column of a name, or how many columns there are.
@@ -107,27 +108,26 @@ impl<'s, 'a> Mapper<&'a Row, Vec<Row>> for Splitting<'s> {
 }
 
 /// One row for each piece of a text column of each row.
-pub(crate) fn flat_map<'a, G: Gate>(
+pub(crate) fn flat_map<'a, R: Runner>(
+    runner: &R,
     alloc: Global,
     name: &Words,
     separator: &Words,
     schema: &Schema,
     rows: &[&'a Row],
-    level: u32,
-    gate: &G,
 ) -> Result<Ran<'a>, StepStop>
     requires some { separator.now ≢ [] }
     requires small { length rows.now ≤ 4194304 }
-    requires level { (1 ≤ level) × (level ≤ 64) }
-    ensures { Gives (at_most (flat_map (split_at_place (place_named schema.now.columns.items name.now) separator.now) (pointed rows.now))) (IsRun no_test untested (pointed rows.now) level) result }
+    requires manner { IsManner (R.manner runner.now) }
+    ensures { Gives (at_most (flat_map (split_at_place (place_named schema.now.columns.items name.now) separator.now) (pointed rows.now))) (IsRun no_test untested (pointed rows.now) (R.manner runner.now)) result }
 {
     let splitting = Splitting {
         at: place_named(&schema.columns, name),
         separator,
     };
     let source = CopySplitter::new(rows);
-    let (all, audit) = flat_map_alone::<Source<'_, 'a>, ArrayCombiner<Row>, G, Splitting<'_>>(
-        alloc, source, &splitting, level, gate,
+    let (all, audit) = flat_map_by::<Source<'_, 'a>, ArrayCombiner<Row>, R, Splitting<'_>>(
+        runner, alloc, source, &splitting,
     )?;
     Ok((Stepped::Made(all), Some(audit)))
 }

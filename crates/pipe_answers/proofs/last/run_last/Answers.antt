@@ -11,7 +11,7 @@ returns g c =
     let rows = pointed c.args.rows.now in
     let fault = last_fault cs step rows in
     let is_text = IsAnswerText cs step rows in
-    let is_audit = IsLastAudit cs step rows c.args.level in
+    let is_audit = IsLastAudit cs step rows (g.R.Runner.manner c.args.runner.now) in
     record {
       fault = given_fault fault is_text is_audit c.call.result c.call.ensures;
       answer = given_text fault is_text is_audit c.call.result c.call.ensures;

@@ -13,7 +13,7 @@ returns-in-Map g c =
     let cs = c.args.schema.now.columns.items in
     let rows = pointed c.args.rows.now in
     let same : x.Map (map named_view c.deref.result.now) ≡ middle_view c.args.step.now = ap (λ fields. x.Map (map named_view fields)) c.deref.ensures.value ∙ sym (ap middle_view c.in-Map.is) in
-    subst (λ m. Gives (after cs m rows) (IsAuditOf cs m rows c.args.level) c.map.result) same c.map.ensures
+    subst (λ m. Gives (after cs m rows) (IsAuditOf cs m rows (g.R.Runner.manner c.args.runner.now)) c.map.result) same c.map.ensures
 
 pub returns-in-Collect : goal.returns-in-Collect
 returns-in-Collect g c =
@@ -21,4 +21,4 @@ returns-in-Collect g c =
     let rows = pointed c.args.rows.now in
     let e = view c.in-Collect.e in
     let same : x.Collect (map named_view c.deref-in-Collect.result.now) e ≡ middle_view c.args.step.now = ap (λ fields. x.Collect (map named_view fields) e) c.deref-in-Collect.ensures.value ∙ sym (ap middle_view c.in-Collect.is) in
-    subst (λ m. Gives (after cs m rows) (IsAuditOf cs m rows c.args.level) c.collect.result) same c.collect.ensures
+    subst (λ m. Gives (after cs m rows) (IsAuditOf cs m rows (g.R.Runner.manner c.args.runner.now)) c.collect.result) same c.collect.ensures

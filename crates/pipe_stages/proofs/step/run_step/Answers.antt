@@ -13,7 +13,7 @@ returns g c =
     let m = middle_view c.args.step.now in
     let rows = pointed c.args.rows.now in
     let wanted = after cs m rows in
-    let audited = IsAuditOf cs m rows c.args.level in
+    let audited = IsAuditOf cs m rows (g.R.Runner.manner c.args.runner.now) in
     record {
       answer = given_rows wanted audited c.call.result c.call.ensures;
       small = given_few wanted audited c.call.result (after_few cs rows (subst (λ n. n ≤ 4194304) (sym (length-map c.args.rows.now _)) c.requires.small) m) c.call.ensures;

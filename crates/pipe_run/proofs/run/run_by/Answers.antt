@@ -1,5 +1,5 @@
 use Rattle.pipe_run.proofs.Ending.{ended, ended_lawful}
-use Rattle.pipe_run.proofs.run.run_alone_main.Goals as goal
+use Rattle.pipe_run.proofs.run.run_by.Goals as goal
 
 pub returns-clause-ends : goal.returns-clause-ends
 returns-clause-ends g c = ended _ _ _ _ _ _ _ c.answer_text-text.ensures c.write_text.ensures
