@@ -1,21 +1,26 @@
 //! The steps of a pipeline over its rows, and the answer.
 ghost use Rattle.std.specs.Prelude.{◌≡◌, ◌≤◌, ◌<◌, ◌+◌, ◌^◌, ◌++◌, [], length, Ok, Err, IfOk, IfErr, OnOk};
+ghost use Rattle.par_task.specs.Manners.{alone};
+ghost use Rattle.par_pool.specs.Plans.{planned};
 ghost use Rattle.pipe_steps.specs.Said.{last_view, middle_view};
 ghost use Rattle.pipe_stages.specs.Rows.{listed, pointed};
 ghost use Rattle.pipe_run.specs.Rests.{IsBehind, IsReady, IsRunOf, Notes, Reaches, items_told, last_told};
 ghost use Rattle.pipe_run.specs.Runs.{last_name as name_of_end, step_name as name_of_middle, stage_outcome as outcome_of, IsTold};
-ghost use Rattle.par_task.specs.Manners.{IsManner};
 ghost use Rattle.pipe_run.specs.Rulings.{IsInner, UnlessFree};
 
 use crate::{Counted, Outcome};
+use par_edge::Gate;
 use par_laws::Memory;
+use par_pool::Plan;
 use par_rows::{Row, Schema};
-use par_task::{Audit, Runner};
-use pipe_answers::{StageAudit, run_last};
+use par_task::Audit;
+use pipe_answers::{StageAudit, run_last, run_last_alone};
 use pipe_checks::step_columns;
-use pipe_stages::{StepStop, Stepped, run_step};
+use pipe_stages::{StepStop, Stepped, run_step, run_step_alone};
 use pipe_steps::{Last, Step};
 use std::alloc::Global;
+use std::sync::Wait;
+use std::thread::Threads;
 
 /// The most rows of a step.
 const MAX_ITEMS: u64 = 4_194_304;
@@ -182,21 +187,49 @@ fn behind<'p>(
 }
 
 // Runs the last step.
-fn run_end<R: Runner>(
-    runner: &R,
+fn run_end<G: Gate + Sync, T: Threads + Wait + Sync>(
+    rt: &T,
     alloc: Global,
     rest: &Rest<'_>,
     rows: &[&Row],
+    plan: &Plan<'_, G>,
     audits: &mut Vec<StageAudit>,
 ) -> Result<Vec<u8>, Outcome>
     requires ready { IsReady rest.now }
     requires over { rest.now.steps.now ≡ [] }
     requires small { length rows.now ≤ 4194304 }
-    requires manner { IsManner (R.manner runner.now) }
-    ensures text { IfOk result (λ text. Notes audits.old.items audits.new.items (λ told. IsRunOf (R.manner runner.now) rest.now (pointed rows.now) (Ok (text.items, told)))) }
-    ensures stopped { IfErr result (λ o. IsInner o × UnlessFree o (IsRunOf (R.manner runner.now) rest.now (pointed rows.now) (Err o))) }
+    requires level { (1 ≤ plan.now.level) × (plan.now.level ≤ 64) }
+    requires workers { (1 ≤ plan.now.workers) × (plan.now.workers ≤ 64) }
+    ensures text { IfOk result (λ text. Notes audits.old.items audits.new.items (λ told. IsRunOf (planned plan.now.workers plan.now.level) rest.now (pointed rows.now) (Ok (text.items, told)))) }
+    ensures stopped { IfErr result (λ o. IsInner o × UnlessFree o (IsRunOf (planned plan.now.workers plan.now.level) rest.now (pointed rows.now) (Err o))) }
 {
-    match run_last(runner, alloc, rest.last, &rest.schema, rows) {
+    match run_last(rt, alloc, rest.last, &rest.schema, rows, plan) {
+        Ok((text, audit)) => {
+            let (name, items) = (last_name(rest.last), last_items(rest.last, rows.len()));
+            note(audits, rest.number, name, items, audit)?;
+            Ok(text)
+        }
+        Err(stop) => Err(stage_outcome(rest.number, stop)),
+    }
+}
+
+// `run_end` on the caller's thread alone.
+fn run_end_alone<G: Gate + Sync>(
+    alloc: Global,
+    rest: &Rest<'_>,
+    rows: &[&Row],
+    level: u32,
+    gate: &G,
+    audits: &mut Vec<StageAudit>,
+) -> Result<Vec<u8>, Outcome>
+    requires ready { IsReady rest.now }
+    requires over { rest.now.steps.now ≡ [] }
+    requires small { length rows.now ≤ 4194304 }
+    requires level { (1 ≤ level) × (level ≤ 64) }
+    ensures text { IfOk result (λ text. Notes audits.old.items audits.new.items (λ told. IsRunOf (alone level) rest.now (pointed rows.now) (Ok (text.items, told)))) }
+    ensures stopped { IfErr result (λ o. IsInner o × UnlessFree o (IsRunOf (alone level) rest.now (pointed rows.now) (Err o))) }
+{
+    match run_last_alone(alloc, rest.last, &rest.schema, rows, level, gate) {
         Ok((text, audit)) => {
             let (name, items) = (last_name(rest.last), last_items(rest.last, rows.len()));
             note(audits, rest.number, name, items, audit)?;
@@ -207,23 +240,25 @@ fn run_end<R: Runner>(
 }
 
 // Runs steps over picks of one table, up to one that makes rows of its own, or to the end.
-fn run_picks<'p, R: Runner>(
-    runner: &R,
+fn run_picks<'p, G: Gate + Sync, T: Threads + Wait + Sync>(
+    rt: &T,
     alloc: Global,
     rest: Rest<'p>,
     rows: &[&Row],
+    plan: &Plan<'_, G>,
     audits: &mut Vec<StageAudit>,
 ) -> Result<Reached<'p>, Outcome>
     requires ready { IsReady rest }
     requires small { length rows.now ≤ 4194304 }
-    requires manner { IsManner (R.manner runner.now) }
-    ensures reached { IfOk result (λ reached. Notes audits.old.items audits.new.items (λ told. Reaches (R.manner runner.now) rest.entry (pointed rows.now) told reached)) }
-    ensures stopped { IfErr result (λ o. IsInner o × UnlessFree o (IsRunOf (R.manner runner.now) rest.entry (pointed rows.now) (Err o))) }
+    requires level { (1 ≤ plan.now.level) × (plan.now.level ≤ 64) }
+    requires workers { (1 ≤ plan.now.workers) × (plan.now.workers ≤ 64) }
+    ensures reached { IfOk result (λ reached. Notes audits.old.items audits.new.items (λ told. Reaches (planned plan.now.workers plan.now.level) rest.entry (pointed rows.now) told reached)) }
+    ensures stopped { IfErr result (λ o. IsInner o × UnlessFree o (IsRunOf (planned plan.now.workers plan.now.level) rest.entry (pointed rows.now) (Err o))) }
 {
     let Some((step, steps)) = rest.steps.split_first() else {
-        return Ok(Reached::Answer(run_end(runner, alloc, &rest, rows, audits)?));
+        return Ok(Reached::Answer(run_end(rt, alloc, &rest, rows, plan, audits)?));
     };
-    let (stepped, audit) = match run_step(runner, alloc, step, &rest.schema, rows) {
+    let (stepped, audit) = match run_step(rt, alloc, step, &rest.schema, rows, plan) {
         Ok(ran) => ran,
         Err(stop) => return Err(stage_outcome(rest.number, stop)),
     };
@@ -231,7 +266,38 @@ fn run_picks<'p, R: Runner>(
     note(audits, rest.number, step_name(step), items, audit)?;
     let rest = behind(alloc, rest.number, &rest.schema, step, steps, rest.last)?;
     match stepped {
-        Stepped::Picked(picks) => run_picks(runner, alloc, rest, &picks, audits),
+        Stepped::Picked(picks) => run_picks(rt, alloc, rest, &picks, plan, audits),
+        Stepped::Made(table) => Ok(Reached::Table(table, rest)),
+    }
+}
+
+// `run_picks` on the caller's thread alone.
+fn run_picks_alone<'p, G: Gate + Sync>(
+    alloc: Global,
+    rest: Rest<'p>,
+    rows: &[&Row],
+    level: u32,
+    gate: &G,
+    audits: &mut Vec<StageAudit>,
+) -> Result<Reached<'p>, Outcome>
+    requires ready { IsReady rest }
+    requires small { length rows.now ≤ 4194304 }
+    requires level { (1 ≤ level) × (level ≤ 64) }
+    ensures reached { IfOk result (λ reached. Notes audits.old.items audits.new.items (λ told. Reaches (alone level) rest.entry (pointed rows.now) told reached)) }
+    ensures stopped { IfErr result (λ o. IsInner o × UnlessFree o (IsRunOf (alone level) rest.entry (pointed rows.now) (Err o))) }
+{
+    let Some((step, steps)) = rest.steps.split_first() else {
+        return Ok(Reached::Answer(run_end_alone(alloc, &rest, rows, level, gate, audits)?));
+    };
+    let (stepped, audit) = match run_step_alone(alloc, step, &rest.schema, rows, level, gate) {
+        Ok(ran) => ran,
+        Err(stop) => return Err(stage_outcome(rest.number, stop)),
+    };
+    let items = step_items(step, rows.len(), rows_after(&stepped));
+    note(audits, rest.number, step_name(step), items, audit)?;
+    let rest = behind(alloc, rest.number, &rest.schema, step, steps, rest.last)?;
+    match stepped {
+        Stepped::Picked(picks) => run_picks_alone(alloc, rest, &picks, level, gate, audits),
         Stepped::Made(table) => Ok(Reached::Table(table, rest)),
     }
 }
@@ -244,42 +310,88 @@ fn all_rows(alloc: Global, table: &[Row]) -> Result<Vec<&Row>, Memory>
 }
 
 // Runs steps over all rows of a table, as far as `run_picks` goes.
-fn run_table<'p, R: Runner>(
-    runner: &R,
+fn run_table<'p, G: Gate + Sync, T: Threads + Wait + Sync>(
+    rt: &T,
     alloc: Global,
     rest: Rest<'p>,
     table: &[Row],
+    plan: &Plan<'_, G>,
     audits: &mut Vec<StageAudit>,
 ) -> Result<Reached<'p>, Outcome>
     requires ready { IsReady rest }
     requires small { length table.now ≤ 4194304 }
-    requires manner { IsManner (R.manner runner.now) }
-    ensures reached { IfOk result (λ reached. Notes audits.old.items audits.new.items (λ told. Reaches (R.manner runner.now) rest.entry table.now told reached)) }
-    ensures stopped { IfErr result (λ o. IsInner o × UnlessFree o (IsRunOf (R.manner runner.now) rest.entry table.now (Err o))) }
+    requires level { (1 ≤ plan.now.level) × (plan.now.level ≤ 64) }
+    requires workers { (1 ≤ plan.now.workers) × (plan.now.workers ≤ 64) }
+    ensures reached { IfOk result (λ reached. Notes audits.old.items audits.new.items (λ told. Reaches (planned plan.now.workers plan.now.level) rest.entry table.now told reached)) }
+    ensures stopped { IfErr result (λ o. IsInner o × UnlessFree o (IsRunOf (planned plan.now.workers plan.now.level) rest.entry table.now (Err o))) }
 {
     let rows = all_rows(alloc, table)?;
-    run_picks(runner, alloc, rest, &rows, audits)
+    run_picks(rt, alloc, rest, &rows, plan, audits)
+}
+
+// `run_table` on the caller's thread alone.
+fn run_table_alone<'p, G: Gate + Sync>(
+    alloc: Global,
+    rest: Rest<'p>,
+    table: &[Row],
+    level: u32,
+    gate: &G,
+    audits: &mut Vec<StageAudit>,
+) -> Result<Reached<'p>, Outcome>
+    requires ready { IsReady rest }
+    requires small { length table.now ≤ 4194304 }
+    requires level { (1 ≤ level) × (level ≤ 64) }
+    ensures reached { IfOk result (λ reached. Notes audits.old.items audits.new.items (λ told. Reaches (alone level) rest.entry table.now told reached)) }
+    ensures stopped { IfErr result (λ o. IsInner o × UnlessFree o (IsRunOf (alone level) rest.entry table.now (Err o))) }
+{
+    let rows = all_rows(alloc, table)?;
+    run_picks_alone(alloc, rest, &rows, level, gate, audits)
 }
 
 /// Runs what is left of a pipeline over the rows of a table, and notes the audits in step order. A table is dropped once
 /// the rows that a step made of it are there; the rows of a table are not copied where steps only pick or reorder them.
-pub fn run_stages<R: Runner>(
-    runner: &R,
+pub fn run_stages<G: Gate + Sync, T: Threads + Wait + Sync>(
+    rt: &T,
     alloc: Global,
     rest: Rest<'_>,
     table: Vec<Row>,
+    plan: &Plan<'_, G>,
     audits: &mut Vec<StageAudit>,
 ) -> Result<Vec<u8>, Outcome>
     requires ready { IsReady rest }
     requires small { length table.items ≤ 4194304 }
-    requires manner { IsManner (R.manner runner.now) }
-    ensures text { IfOk result (λ text. Notes audits.old.items audits.new.items (λ told. IsRunOf (R.manner runner.now) rest.entry table.items (Ok (text.items, told)))) }
-    ensures stopped { IfErr result (λ o. IsInner o × UnlessFree o (IsRunOf (R.manner runner.now) rest.entry table.items (Err o))) }
+    requires level { (1 ≤ plan.now.level) × (plan.now.level ≤ 64) }
+    requires workers { (1 ≤ plan.now.workers) × (plan.now.workers ≤ 64) }
+    ensures text { IfOk result (λ text. Notes audits.old.items audits.new.items (λ told. IsRunOf (planned plan.now.workers plan.now.level) rest.entry table.items (Ok (text.items, told)))) }
+    ensures stopped { IfErr result (λ o. IsInner o × UnlessFree o (IsRunOf (planned plan.now.workers plan.now.level) rest.entry table.items (Err o))) }
 {
-    let reached = run_table(runner, alloc, rest, &table, audits)?;
+    let reached = run_table(rt, alloc, rest, &table, plan, audits)?;
     drop(table);
     match reached {
         Reached::Answer(text) => Ok(text),
-        Reached::Table(made, behind) => run_stages(runner, alloc, behind, made, audits),
+        Reached::Table(made, behind) => run_stages(rt, alloc, behind, made, plan, audits),
+    }
+}
+
+/// `run_stages` on the caller's thread alone. It takes neither threads nor waits.
+pub fn run_stages_alone<G: Gate + Sync>(
+    alloc: Global,
+    rest: Rest<'_>,
+    table: Vec<Row>,
+    level: u32,
+    gate: &G,
+    audits: &mut Vec<StageAudit>,
+) -> Result<Vec<u8>, Outcome>
+    requires ready { IsReady rest }
+    requires small { length table.items ≤ 4194304 }
+    requires level { (1 ≤ level) × (level ≤ 64) }
+    ensures text { IfOk result (λ text. Notes audits.old.items audits.new.items (λ told. IsRunOf (alone level) rest.entry table.items (Ok (text.items, told)))) }
+    ensures stopped { IfErr result (λ o. IsInner o × UnlessFree o (IsRunOf (alone level) rest.entry table.items (Err o))) }
+{
+    let reached = run_table_alone(alloc, rest, &table, level, gate, audits)?;
+    drop(table);
+    match reached {
+        Reached::Answer(text) => Ok(text),
+        Reached::Table(made, behind) => run_stages_alone(alloc, behind, made, level, gate, audits),
     }
 }
