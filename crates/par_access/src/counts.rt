@@ -9,7 +9,7 @@ ghost use Rattle.par_access.specs.Parts.{counted_by};
 ghost use Rattle.par_jobs.specs.Runs.{IsRunOver};
 
 use par_edge::Gate;
-use par_jobs::{Counting, Nothing, Sifted, sift, sift_alone};
+use par_jobs::{Counting, Nothing, Sifted, sift_alone, sift_pooled};
 use par_laws::{Memory, Test, Tried};
 use par_pool::Plan;
 use par_splitter::Splitter;
@@ -50,7 +50,7 @@ where
     ensures answer { IfOk result (λ r. r.0 ≡ tried (fault_of no_flag (map (P.verdict test.now) (S.items source))) (count_by (λ x. passes (P.verdict test.now x)) (S.items source))) }
     ensures audit { IfOk result (λ r. IsRunOver no_flag (P.verdict test.now) (S.items source) (planned plan.now.workers plan.now.level) r.1) }
 {
-    let (sifted, audit) = sift(rt, alloc, source, test, &Counting, &Nothing, plan)?;
+    let (sifted, audit) = sift_pooled(rt, alloc, source, test, &Counting, &Nothing, plan)?;
     Ok((counted(sifted), audit))
 }
 

@@ -11,7 +11,7 @@ ghost use Rattle.par_jobs.specs.Runs.{IsRunOver, untested};
 
 use crate::gathering::{Mapped, Maybe, Present};
 use par_edge::Gate;
-use par_jobs::{Folding, gather, gather_alone};
+use par_jobs::{Folding, gather_alone, gather_pooled};
 use par_laws::{Gather, Greatest, Least, Mapper, Memory, Monoid, Product, Shown, Sum};
 use par_pool::Plan;
 use par_splitter::Splitter;
@@ -38,7 +38,7 @@ where
     ensures value { IfOk result (λ r. M.is_value how.now (M.T.shown r.0)) }
     ensures audit { IfOk result (λ r. IsRunOver no_test untested (S.items source) (planned plan.now.workers plan.now.level) r.1) }
 {
-    gather(rt, alloc, source, &Folding { how }, plan)
+    gather_pooled(rt, alloc, source, &Folding { how }, plan)
 }
 
 /// `aggregate` on the caller's thread alone. It takes neither threads nor waits.

@@ -12,7 +12,9 @@ ghost use Rattle.par_jobs.specs.Runs.{IsRunOver};
 
 use crate::faults::tried;
 use par_edge::Gate;
-use par_jobs::{Nothing, fault_before, fault_here, front, front_alone, last, last_alone};
+use par_jobs::{
+    Nothing, fault_before, fault_here, front_alone, front_pooled, last_alone, last_pooled,
+};
 use par_laws::{Memory, Not, Test, Tried};
 use par_lists::{index_of, place_of};
 use par_pool::Plan;
@@ -66,7 +68,7 @@ where
     ensures audit { IfOk result (λ r. IsRunOver low_flag (P.verdict test.now) (S.items source) (planned plan.now.workers plan.now.level) r.1) }
 {
     let whole = source.dup();
-    let (front, audit) = front(rt, alloc, source, test, &Nothing, plan)?;
+    let (front, audit) = front_pooled(rt, alloc, source, test, &Nothing, plan)?;
     let found = index_within(front.end, whole.remaining());
     let fault = fault_here(whole, test, front.end);
     Ok((tried(fault, index_of(found)), audit))
@@ -116,7 +118,7 @@ where
     ensures audit { IfOk result (λ r. IsRunOver high_flag (P.verdict test.now) (S.items source) (planned plan.now.workers plan.now.level) r.1) }
 {
     let whole = source.dup();
-    let (above, audit) = last(rt, alloc, source, test, plan)?;
+    let (above, audit) = last_pooled(rt, alloc, source, test, plan)?;
     let found = index_below(above);
     let fault = fault_before(whole, test, above);
     Ok((tried(fault, index_of(found)), audit))
@@ -171,7 +173,7 @@ where
     let first = place_among(from, source.remaining());
     let (_, rest) = source.cut_at(first);
     let fails = Not { inner: test };
-    let (front, audit) = front(rt, alloc, Rebased::new(rest), &fails, &Nothing, plan)?;
+    let (front, audit) = front_pooled(rt, alloc, Rebased::new(rest), &fails, &Nothing, plan)?;
     let fault = fault_here(whole, test, first + front.end);
     Ok((tried(fault, front.end), audit))
 }

@@ -28,6 +28,8 @@ mod faults;
 mod folds;
 mod gathering;
 mod indexes;
+#[cfg(test)]
+mod pooled_tests;
 mod searches;
 #[cfg(test)]
 mod tests;

@@ -13,7 +13,7 @@ ghost use Rattle.par_access.specs.Pairs.{even_pairs, same_elements};
 ghost use Rattle.par_jobs.specs.Runs.{IsRunOver};
 
 use par_edge::Gate;
-use par_jobs::{Sought, search, search_alone};
+use par_jobs::{Sought, search_alone, search_pooled};
 use par_laws::{Memory, Not, Test, Tried};
 use par_pool::Plan;
 use par_splitter::{Precise, Splitter, ZipSplitter};
@@ -67,7 +67,7 @@ where
     ensures answer { IfOk result (λ r. IsFound (map (P.verdict test.now) (S.items source)) r.0) }
     ensures audit { IfOk result (λ r. IsRunOver abort_flag (P.verdict test.now) (S.items source) (planned plan.now.workers plan.now.level) r.1) }
 {
-    let (sought, audit) = search(rt, alloc, source, test, plan)?;
+    let (sought, audit) = search_pooled(rt, alloc, source, test, plan)?;
     Ok((place(sought), audit))
 }
 
@@ -111,7 +111,7 @@ where
     ensures answer { IfOk result (λ r. r.0 ≡ tried (fault_of abort_flag (map (P.verdict test.now) (S.items source))) (list_any (λ x. passes (P.verdict test.now x)) (S.items source))) }
     ensures audit { IfOk result (λ r. IsRunOver abort_flag (P.verdict test.now) (S.items source) (planned plan.now.workers plan.now.level) r.1) }
 {
-    let (sought, audit) = search(rt, alloc, source, test, plan)?;
+    let (sought, audit) = search_pooled(rt, alloc, source, test, plan)?;
     Ok((answered(sought, true), audit))
 }
 
@@ -156,7 +156,7 @@ where
     ensures audit { IfOk result (λ r. IsRunOver abort_flag (λ x. contrary (P.verdict test.now x)) (S.items source) (planned plan.now.workers plan.now.level) r.1) }
 {
     let fails = Not { inner: test };
-    let (sought, audit) = search(rt, alloc, source, &fails, plan)?;
+    let (sought, audit) = search_pooled(rt, alloc, source, &fails, plan)?;
     Ok((answered(sought, false), audit))
 }
 

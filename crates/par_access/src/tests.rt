@@ -16,9 +16,9 @@ use std::test::Fail;
 
 /// Passes `least` and more, but has no truth value for `faulty`.
 #[derive(Clone, Copy, Drop)]
-struct Rule {
-    least: i64,
-    faulty: i64,
+pub(crate) struct Rule {
+    pub(crate) least: i64,
+    pub(crate) faulty: i64,
 }
 
 impl Test<i64> for Rule {
@@ -39,7 +39,7 @@ impl Test<i64> for Rule {
     }
 }
 
-struct Same;
+pub(crate) struct Same;
 
 impl Mapper<i64, i64> for Same {
     ghost mapped = { λ _ x. x };
@@ -50,7 +50,7 @@ impl Mapper<i64, i64> for Same {
 }
 
 /// The number as a value that may be missing.
-struct There;
+pub(crate) struct There;
 
 impl Mapper<i64, Option<i64>> for There {
     ghost use Rattle.std.specs.Prelude.{Some};
@@ -63,7 +63,7 @@ impl Mapper<i64, Option<i64>> for There {
 }
 
 /// Whether two numbers are one.
-struct Alike;
+pub(crate) struct Alike;
 
 impl Test<(i64, i64)> for Alike {
     ghost use Rattle.std.specs.Prelude.{cond};
@@ -82,7 +82,7 @@ impl Test<(i64, i64)> for Alike {
 }
 
 // The numbers from a on and before b, if they are few.
-fn from_to(a: i64, b: i64) -> Option<RangeSplitter>
+pub(crate) fn from_to(a: i64, b: i64) -> Option<RangeSplitter>
     ensures place { IfSome result (λ s. ⟦<RangeSplitter as Splitter>⟧.lo s ≡ 0) }
     ensures few { IfSome result (λ s. length (⟦<RangeSplitter as Splitter>⟧.items s) ≤ 1000) }
 {
@@ -97,7 +97,7 @@ fn from_to(a: i64, b: i64) -> Option<RangeSplitter>
 }
 
 // How many tests the leaves made.
-fn tested(audit: &Audit) -> u64 {
+pub(crate) fn tested(audit: &Audit) -> u64 {
     let mut tests = 0u64;
     for leaf in audit.leaves() {
         tests = tests.saturating_add(leaf.tested);

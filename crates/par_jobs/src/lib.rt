@@ -10,7 +10,8 @@
 //! | `LastJob` | looks for the last marked item | `lastIndexWhere` |
 //!
 //! Each job has two functions that run it whole over a source, and say of its part what it means for the source's list:
-//! `gather`, `sift`, `front`, `spanned`, `search` and `last` on several threads, and the same with `_alone` on the caller's. A test
+//! `gather_pooled`, `sift_pooled`, `front_pooled`, `spanned_pooled`, `search_pooled` and `last_pooled` on several threads, and
+//! the same with `_alone` on the caller's. A test
 //! may find that an item has no truth value; which item's fault is then the call's says `fault_of` of specs/Faults, and
 //! `fault_here` and `fault_before` look at the one item that ended a job. What an audit tells is `IsRunOver` of specs/Runs.
 //!
@@ -41,8 +42,8 @@ pub use gather::GatherJob;
 pub use last::LastJob;
 pub use looking::{fault_before, fault_here};
 pub use runs::{
-    front, front_alone, gather, gather_alone, last, last_alone, search, search_alone, sift,
-    sift_alone, spanned, spanned_alone,
+    front_alone, front_pooled, gather_alone, gather_pooled, last_alone, last_pooled, search_alone,
+    search_pooled, sift_alone, sift_pooled, spanned_alone, spanned_pooled,
 };
 pub use search::{SearchJob, Sought};
 pub use sift::{SiftJob, Sifted};

@@ -31,7 +31,7 @@ use std::sync::Wait;
 use std::thread::Threads;
 
 /// What is built of all items, without a test.
-pub fn gather<
+pub fn gather_pooled<
     S: Splitter + Send + Sync,
     B: Builder<S::Item> + Sync,
     G: Gate + Sync,
@@ -62,7 +62,7 @@ where
     run_job(rt, alloc, &job, &Never, &marks, source, plan)
 }
 
-/// `gather` on the caller's thread alone. It takes neither threads nor waits.
+/// `gather_pooled` on the caller's thread alone. It takes neither threads nor waits.
 pub fn gather_alone<S: Splitter, B: Builder<S::Item>, G: Gate>(
     alloc: Global,
     source: S,
@@ -87,7 +87,7 @@ pub fn gather_alone<S: Splitter, B: Builder<S::Item>, G: Gate>(
 
 /// What is built of the items that pass and of the others; or the fault with the least index, where an item faults. Every
 /// item is tested.
-pub fn sift<
+pub fn sift_pooled<
     'x,
     S: Splitter + Send + Sync,
     A: Builder<S::Item> + Sync,
@@ -125,7 +125,7 @@ where
     run_job(rt, alloc, &job, test, &marks, source, plan)
 }
 
-/// `sift` on the caller's thread alone. It takes neither threads nor waits.
+/// `sift_pooled` on the caller's thread alone. It takes neither threads nor waits.
 pub fn sift_alone<
     'x,
     S: Splitter,
@@ -160,7 +160,7 @@ pub fn sift_alone<
 
 /// What is built of the items before the first one that passes or faults, and that one's index, or how many items there
 /// are where there is none. No item past it is tested. `fault_here` finds whether it faults.
-pub fn front<
+pub fn front_pooled<
     'x,
     S: Splitter + Send + Sync,
     B: Builder<S::Item> + Sync,
@@ -196,7 +196,7 @@ where
     run_job(rt, alloc, &job, test, &marks, source, plan)
 }
 
-/// `front` on the caller's thread alone. It takes neither threads nor waits.
+/// `front_pooled` on the caller's thread alone. It takes neither threads nor waits.
 pub fn front_alone<'x, S: Splitter, B: Builder<S::Item>, G: Gate, P: Test<S::Item>>(
     alloc: Global,
     source: S,
@@ -224,7 +224,7 @@ pub fn front_alone<'x, S: Splitter, B: Builder<S::Item>, G: Gate, P: Test<S::Ite
 
 /// What is built of the items before the first one that passes or faults, and of those from it on, with its index, or how
 /// many items there are where there is none. No item past it is tested. `fault_here` finds whether it faults.
-pub fn spanned<
+pub fn spanned_pooled<
     'x,
     S: Splitter + Send + Sync,
     B: Builder<S::Item> + Sync,
@@ -261,7 +261,7 @@ where
     run_job(rt, alloc, &job, test, &marks, source, plan)
 }
 
-/// `spanned` on the caller's thread alone. It takes neither threads nor waits.
+/// `spanned_pooled` on the caller's thread alone. It takes neither threads nor waits.
 pub fn spanned_alone<'x, S: Splitter, B: Builder<S::Item>, G: Gate, P: Test<S::Item>>(
     alloc: Global,
     source: S,
@@ -290,7 +290,7 @@ pub fn spanned_alone<'x, S: Splitter, B: Builder<S::Item>, G: Gate, P: Test<S::I
 
 /// The index of an item that passes, and not always of the first one; or, where none passes, the fault with the least
 /// index; or nothing, where none passes and none faults. On one thread no item past the first one that passes is tested.
-pub fn search<
+pub fn search_pooled<
     S: Splitter + Send + Sync,
     G: Gate + Sync,
     P: Test<S::Item> + Send + Sync,
@@ -313,7 +313,7 @@ where
     run_job(rt, alloc, &job, test, &marks, source, plan)
 }
 
-/// `search` on the caller's thread alone. It takes neither threads nor waits.
+/// `search_pooled` on the caller's thread alone. It takes neither threads nor waits.
 pub fn search_alone<S: Splitter, G: Gate, P: Test<S::Item>>(
     alloc: Global,
     source: S,
@@ -337,7 +337,7 @@ pub fn search_alone<S: Splitter, G: Gate, P: Test<S::Item>>(
 
 /// One above the index of the last item that passes or faults, or 0 where there is none. `fault_before` finds whether it
 /// faults.
-pub fn last<
+pub fn last_pooled<
     S: Splitter + Send + Sync,
     G: Gate + Sync,
     P: Test<S::Item> + Send + Sync,
@@ -360,7 +360,7 @@ where
     run_job(rt, alloc, &job, test, &marks, source, plan)
 }
 
-/// `last` on the caller's thread alone. It takes neither threads nor waits.
+/// `last_pooled` on the caller's thread alone. It takes neither threads nor waits.
 pub fn last_alone<S: Splitter, G: Gate, P: Test<S::Item>>(
     alloc: Global,
     source: S,

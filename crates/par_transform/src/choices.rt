@@ -11,7 +11,7 @@ ghost use Rattle.par_jobs.specs.Runs.{IsRunOver};
 use crate::collecting::Collecting;
 use par_combiner::Combiner;
 use par_edge::Gate;
-use par_jobs::{Nothing, Sifted, sift, sift_alone};
+use par_jobs::{Nothing, Sifted, sift_alone, sift_pooled};
 use par_laws::{Mapper, Memory, Shown, Test, Tried};
 use par_pool::Plan;
 use par_splitter::Precise;
@@ -53,7 +53,7 @@ where
         of,
         out: PhantomData,
     };
-    let (sifted, audit) = sift(rt, alloc, source, test, &kept, &Nothing, plan)?;
+    let (sifted, audit) = sift_pooled(rt, alloc, source, test, &kept, &Nothing, plan)?;
     match sifted {
         Sifted::Got(passing, _) => Ok((Tried::Got(passing.result()?), audit)),
         Sifted::Fell(fault) => Ok((Tried::Fault(fault), audit)),
@@ -124,7 +124,7 @@ where
         of,
         out: PhantomData,
     };
-    let (sifted, audit) = sift(rt, alloc, source, test, &Nothing, &kept, plan)?;
+    let (sifted, audit) = sift_pooled(rt, alloc, source, test, &Nothing, &kept, plan)?;
     match sifted {
         Sifted::Got(_, failing) => Ok((Tried::Got(failing.result()?), audit)),
         Sifted::Fell(fault) => Ok((Tried::Fault(fault), audit)),
@@ -250,7 +250,7 @@ where
         of,
         out: PhantomData,
     };
-    let (sifted, audit) = sift(rt, alloc, source, test, &kept, &kept, plan)?;
+    let (sifted, audit) = sift_pooled(rt, alloc, source, test, &kept, &kept, plan)?;
     match sifted {
         Sifted::Got(passing, failing) => {
             let passing = passing.result()?;

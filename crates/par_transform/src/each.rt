@@ -55,7 +55,7 @@ pub fn map_alone<S: Precise, C: Combiner, G: Gate, F: Mapper<S::Item, C::Item>>(
     ensures answer { IfOk result (λ r. C.stands r.0 (map (F.mapped of.now) (S.items source))) }
     ensures audit { IfOk result (λ r. IsRunOver no_test untested (S.items source) (alone level) r.1) }
 {
-    collect_all::<S, C, G, F>(alloc, source, of, level, gate)
+    collect_all_alone::<S, C, G, F>(alloc, source, of, level, gate)
 }
 
 /// What `of` makes of each item with the item of `other` at the same index, up to the end of the shorter one. The audit is
@@ -113,7 +113,7 @@ pub fn zip_alone<
     ensures audit { IfOk result (λ r. IsRunOver no_test untested (zip (S.items source) (R.items other)) (alone level) r.1) }
 {
     let pairs = ZipSplitter::new(source, other);
-    collect_all::<ZipSplitter<S, R>, C, G, F>(alloc, pairs, of, level, gate)
+    collect_all_alone::<ZipSplitter<S, R>, C, G, F>(alloc, pairs, of, level, gate)
 }
 
 /// The indexes of so many items.
@@ -203,5 +203,5 @@ pub fn reverse_alone<S: Precise, C: Combiner, G: Gate, F: Mapper<S::Item, C::Ite
     ensures audit { IfOk result (λ r. IsRunOver no_test untested (S.items source) (alone level) r.1) }
 {
     let backwards = Reversed::new(source);
-    collect_all::<Reversed<S>, C, G, F>(alloc, backwards, of, level, gate)
+    collect_all_alone::<Reversed<S>, C, G, F>(alloc, backwards, of, level, gate)
 }

@@ -11,7 +11,7 @@ use crate::flattening::{Flat, Flattening};
 use crate::stop::FlatStop;
 use par_combiner::Combiner;
 use par_edge::Gate;
-use par_jobs::{gather, gather_alone};
+use par_jobs::{gather_alone, gather_pooled};
 use par_laws::{Mapper, Shown};
 use par_pool::Plan;
 use par_splitter::Precise;
@@ -47,7 +47,7 @@ where
         of,
         out: PhantomData,
     };
-    let (flat, audit) = gather(rt, alloc, source, &lists, plan)?;
+    let (flat, audit) = gather_pooled(rt, alloc, source, &lists, plan)?;
     match flat {
         Flat::Kept(made) => Ok((made.result()?, audit)),
         Flat::Over => Err(FlatStop::TooMany),

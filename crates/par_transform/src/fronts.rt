@@ -11,7 +11,7 @@ ghost use Rattle.par_jobs.specs.Runs.{IsRunOver};
 use crate::collecting::Collecting;
 use par_combiner::Combiner;
 use par_edge::Gate;
-use par_jobs::{fault_here, front, front_alone, spanned, spanned_alone};
+use par_jobs::{fault_here, front_alone, front_pooled, spanned_alone, spanned_pooled};
 use par_laws::{Mapper, Memory, Not, Shown, Test, Tried};
 use par_pool::Plan;
 use par_splitter::{Precise, Splitter};
@@ -55,7 +55,7 @@ where
     };
     let fails = Not { inner: test };
     let again = source.dup();
-    let (front, audit) = front(rt, alloc, source, &fails, &kept, plan)?;
+    let (front, audit) = front_pooled(rt, alloc, source, &fails, &kept, plan)?;
     match fault_here(again, &fails, front.end) {
         None => Ok((Tried::Got(front.kept.result()?), audit)),
         Some(fault) => Ok((Tried::Fault(fault), audit)),
@@ -130,7 +130,7 @@ where
     };
     let fails = Not { inner: test };
     let again = source.dup();
-    let (parts, audit) = spanned(rt, alloc, source, &fails, &kept, plan)?;
+    let (parts, audit) = spanned_pooled(rt, alloc, source, &fails, &kept, plan)?;
     match fault_here(again, &fails, parts.end) {
         None => Ok((Tried::Got(parts.suffix.result()?), audit)),
         Some(fault) => Ok((Tried::Fault(fault), audit)),
@@ -204,7 +204,7 @@ where
     };
     let fails = Not { inner: test };
     let again = source.dup();
-    let (parts, audit) = spanned(rt, alloc, source, &fails, &kept, plan)?;
+    let (parts, audit) = spanned_pooled(rt, alloc, source, &fails, &kept, plan)?;
     match fault_here(again, &fails, parts.end) {
         None => {
             let before = parts.prefix.result()?;

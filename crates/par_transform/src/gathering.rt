@@ -8,7 +8,7 @@ ghost use Rattle.par_jobs.specs.Runs.{IsRunOver, untested};
 use crate::collecting::Collecting;
 use par_combiner::Combiner;
 use par_edge::Gate;
-use par_jobs::{gather, gather_alone};
+use par_jobs::{gather_alone, gather_pooled};
 use par_laws::{Mapper, Memory, Shown};
 use par_pool::Plan;
 use par_splitter::Splitter;
@@ -39,7 +39,7 @@ where
         of,
         out: PhantomData,
     };
-    let (made, audit) = gather(rt, alloc, source, &builder, plan)?;
+    let (made, audit) = gather_pooled(rt, alloc, source, &builder, plan)?;
     Ok((made.result()?, audit))
 }
 

@@ -30,6 +30,8 @@ mod flat;
 mod flattening;
 mod fronts;
 mod gathering;
+#[cfg(test)]
+mod pooled_tests;
 mod reversed;
 mod stop;
 #[cfg(test)]

@@ -14,15 +14,15 @@ use par_task::Audit;
 use std::alloc::Global;
 use std::test::Fail;
 
-type Ints = ArrayCombiner<i64>;
+pub(crate) type Ints = ArrayCombiner<i64>;
 
-type Pairs = ArrayCombiner<(i64, i64)>;
+pub(crate) type Pairs = ArrayCombiner<(i64, i64)>;
 
 /// Passes `least` and more, but has no truth value for `faulty`.
 #[derive(Clone, Copy, Drop)]
-struct Rule {
-    least: i64,
-    faulty: i64,
+pub(crate) struct Rule {
+    pub(crate) least: i64,
+    pub(crate) faulty: i64,
 }
 
 impl Test<i64> for Rule {
@@ -71,7 +71,7 @@ impl Test<i64> for OneOf {
     }
 }
 
-struct Same;
+pub(crate) struct Same;
 
 impl Mapper<i64, i64> for Same {
     ghost mapped = { λ _ x. x };
@@ -90,7 +90,7 @@ impl Mapper<(i64, i64), (i64, i64)> for Same {
 }
 
 /// The number's square.
-struct Square;
+pub(crate) struct Square;
 
 impl Mapper<i64, i64> for Square {
     ghost use Rattle.par_laws.specs.Wrapping.{wrapped_product};
@@ -126,7 +126,7 @@ impl Mapper<i64, i64> for Data {
 }
 
 /// The number twice.
-struct Twice;
+pub(crate) struct Twice;
 
 impl Mapper<i64, Vec<i64>> for Twice {
     ghost use Rattle.std.specs.Prelude.{[], ◌∷◌};
@@ -155,7 +155,7 @@ impl Mapper<i64, Vec<bool>> for Truths {
 }
 
 // The numbers from a on and before b by steps of c, if they are few.
-fn few(a: i64, b: i64, c: i64) -> Option<RangeSplitter>
+pub(crate) fn few(a: i64, b: i64, c: i64) -> Option<RangeSplitter>
     ensures place { IfSome result (λ s. ⟦<RangeSplitter as Splitter>⟧.lo s ≡ 0) }
     ensures few { IfSome result (λ s. length (⟦<RangeSplitter as Splitter>⟧.items s) ≤ 1000) }
 {
@@ -170,7 +170,7 @@ fn few(a: i64, b: i64, c: i64) -> Option<RangeSplitter>
 }
 
 // Whether the answer is this list.
-fn is_got(tried: &Tried<Vec<i64>>, items: &[i64]) -> bool {
+pub(crate) fn is_got(tried: &Tried<Vec<i64>>, items: &[i64]) -> bool {
     match tried {
         Tried::Got(found) => found.as_slice() == items,
         Tried::Fault(_) => false,
@@ -178,7 +178,7 @@ fn is_got(tried: &Tried<Vec<i64>>, items: &[i64]) -> bool {
 }
 
 // Whether the answer is these two lists.
-fn are_got(tried: &Tried<(Vec<i64>, Vec<i64>)>, first: &[i64], second: &[i64]) -> bool {
+pub(crate) fn are_got(tried: &Tried<(Vec<i64>, Vec<i64>)>, first: &[i64], second: &[i64]) -> bool {
     match tried {
         Tried::Got(found) => found.0.as_slice() == first && found.1.as_slice() == second,
         Tried::Fault(_) => false,
@@ -186,7 +186,7 @@ fn are_got(tried: &Tried<(Vec<i64>, Vec<i64>)>, first: &[i64], second: &[i64]) -
 }
 
 // How many tests the leaves made.
-fn tested(audit: &Audit) -> u64 {
+pub(crate) fn tested(audit: &Audit) -> u64 {
     let mut tests = 0u64;
     for leaf in audit.leaves() {
         tests = tests.saturating_add(leaf.tested);

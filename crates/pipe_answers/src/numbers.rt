@@ -74,7 +74,7 @@ pub(crate) fn count<G: Gate + Sync, T: Threads + Wait + Sync>(
     let source = CopySplitter::new(rows);
     let (tried, audit) = par_access::count(rt, alloc, source, &test, plan)?;
     match tried {
-        Tried::Got(count) => Ok((texts::count_alone(alloc, u64::from(count))?, Some(audit))),
+        Tried::Got(count) => Ok((texts::count(alloc, u64::from(count))?, Some(audit))),
         Tried::Fault(fault) => Err(StepStop::Fault(fault)),
     }
 }
@@ -97,7 +97,7 @@ pub(crate) fn count_alone<G: Gate>(
     let source = CopySplitter::new(rows);
     let (tried, audit) = par_access::count_alone(alloc, source, &test, level, gate)?;
     match tried {
-        Tried::Got(count) => Ok((texts::count_alone(alloc, u64::from(count))?, Some(audit))),
+        Tried::Got(count) => Ok((texts::count(alloc, u64::from(count))?, Some(audit))),
         Tried::Fault(fault) => Err(StepStop::Fault(fault)),
     }
 }

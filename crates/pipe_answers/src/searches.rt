@@ -304,7 +304,7 @@ pub(crate) fn segment_length<G: Gate + Sync, T: Threads + Wait + Sync>(
     let source = CopySplitter::new(rows);
     let (tried, audit) = par_access::segment_length(rt, alloc, source, &test, from, plan)?;
     match tried {
-        Tried::Got(length) => Ok((texts::count_alone(alloc, u64::from(length))?, Some(audit))),
+        Tried::Got(length) => Ok((texts::count(alloc, u64::from(length))?, Some(audit))),
         Tried::Fault(fault) => Err(StepStop::Fault(fault)),
     }
 }
@@ -328,7 +328,7 @@ pub(crate) fn segment_length_alone<G: Gate>(
     let source = CopySplitter::new(rows);
     let (tried, audit) = par_access::segment_length_alone(alloc, source, &test, from, level, gate)?;
     match tried {
-        Tried::Got(length) => Ok((texts::count_alone(alloc, u64::from(length))?, Some(audit))),
+        Tried::Got(length) => Ok((texts::count(alloc, u64::from(length))?, Some(audit))),
         Tried::Fault(fault) => Err(StepStop::Fault(fault)),
     }
 }

@@ -37,10 +37,24 @@ fn run_command<H: Shelf, O: Sink, G: Gate + Sync, X: Threads + Wait + Sync>(
         Command::Run {
             pipe,
             data,
-            workers: _,
+            workers: 1,
             level,
             audit,
-        } => run_alone_main(runner, alloc, pipe, data, audit, level, shelf, out, gate),
+        } => run_alone_main(alloc, pipe, data, audit, level, shelf, out, gate),
+        Command::Run {
+            pipe,
+            data,
+            workers,
+            level,
+            audit,
+        } => {
+            let plan = Plan {
+                workers,
+                level,
+                gate,
+            };
+            run_main(rt, alloc, pipe, data, audit, shelf, out, &plan)
+        }
         Command::Check { pipe } => check_alone(alloc, pipe, shelf, out),
     }
 }

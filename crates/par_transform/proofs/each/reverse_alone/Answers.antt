@@ -7,4 +7,4 @@ use Rattle.par_transform.proofs.each.reverse_alone.Goals as goal
 pub returns-clause-audit : goal.returns-clause-audit
 returns-clause-audit g c =
     let items = g.S.Splitter.items c.args.source in
-    ran_as _ items (alone c.args.level) c.collect_all.result (ap length c.new-backwards.ensures.list ∙ length-reverse items) c.collect_all.ensures.audit
+    ran_as _ items (alone c.args.level) c.collect_all_alone.result (ap length c.new-backwards.ensures.list ∙ length-reverse items) c.collect_all_alone.ensures.audit

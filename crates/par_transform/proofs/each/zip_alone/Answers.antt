@@ -11,4 +11,4 @@ collect_all-requires-clause-small g c =
 
 pub returns-clause-audit : goal.returns-clause-audit
 returns-clause-audit g c =
-    subst (λ zs. IfOk c.collect_all.result (λ r. IsRunOver no_test untested zs (alone c.args.level) r.1)) c.new-pairs.ensures.list c.collect_all.ensures.audit
+    subst (λ zs. IfOk c.collect_all_alone.result (λ r. IsRunOver no_test untested zs (alone c.args.level) r.1)) c.new-pairs.ensures.list c.collect_all_alone.ensures.audit

@@ -5,7 +5,7 @@ use Rattle.par_jobs.specs.Whole.{IsSoughtAll}
 use Rattle.par_jobs.proofs.Leasts.{sought_all}
 use Rattle.par_jobs.proofs.Whole.{ok_map, retold}
 use Rattle.par_pool.specs.Plans.{planned}
-use Rattle.par_jobs.proofs.runs.search.Goals as goal
+use Rattle.par_jobs.proofs.runs.search_pooled.Goals as goal
 
 pub returns-clause-sought : goal.returns-clause-sought
 returns-clause-sought g c =

@@ -5,7 +5,7 @@ use Rattle.par_jobs.specs.Whole.{IsSiftedAll}
 use Rattle.par_jobs.proofs.Leasts.{sifted_all}
 use Rattle.par_jobs.proofs.Whole.{ok_map, retold}
 use Rattle.par_pool.specs.Plans.{planned}
-use Rattle.par_jobs.proofs.runs.sift.Goals as goal
+use Rattle.par_jobs.proofs.runs.sift_pooled.Goals as goal
 
 pub returns-clause-sifted : goal.returns-clause-sifted
 returns-clause-sifted g c =

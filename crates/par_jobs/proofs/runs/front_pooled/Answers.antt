@@ -5,7 +5,7 @@ use Rattle.par_jobs.specs.Runs.{IsRunOver}
 use Rattle.par_jobs.proofs.Whole.{end_within, front_end, front_kept}
 use Rattle.par_jobs.proofs.Whole.{ok_map, retold}
 use Rattle.par_pool.specs.Plans.{planned}
-use Rattle.par_jobs.proofs.runs.front.Goals as goal
+use Rattle.par_jobs.proofs.runs.front_pooled.Goals as goal
 
 pub returns-clause-end : goal.returns-clause-end
 returns-clause-end g c =

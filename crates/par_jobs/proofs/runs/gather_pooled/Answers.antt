@@ -3,7 +3,7 @@ use Rattle.par_task.specs.Marking.{no_test}
 use Rattle.par_jobs.specs.Runs.{IsRunOver, untested}
 use Rattle.par_jobs.proofs.Whole.{between_all, never_marks, ok_map}
 use Rattle.par_pool.specs.Plans.{planned}
-use Rattle.par_jobs.proofs.runs.gather.Goals as goal
+use Rattle.par_jobs.proofs.runs.gather_pooled.Goals as goal
 
 pub run_job-requires-clause-marks : goal.run_job-requires-clause-marks
 run_job-requires-clause-marks g c = rw (c.over-marks.ensures ∙ sym c.over.ensures) (never_marks _ _)

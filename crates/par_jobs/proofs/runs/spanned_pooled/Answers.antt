@@ -5,7 +5,7 @@ use Rattle.par_jobs.specs.Runs.{IsRunOver}
 use Rattle.par_jobs.proofs.Whole.{end_within, spanned_end, spanned_prefix, spanned_suffix}
 use Rattle.par_jobs.proofs.Whole.{ok_map, retold}
 use Rattle.par_pool.specs.Plans.{planned}
-use Rattle.par_jobs.proofs.runs.spanned.Goals as goal
+use Rattle.par_jobs.proofs.runs.spanned_pooled.Goals as goal
 
 pub returns-clause-end : goal.returns-clause-end
 returns-clause-end g c =

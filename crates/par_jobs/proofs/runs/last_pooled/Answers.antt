@@ -4,7 +4,7 @@ use Rattle.par_task.specs.Marking.{high_flag, marks_of}
 use Rattle.par_jobs.specs.Runs.{IsRunOver}
 use Rattle.par_jobs.proofs.Whole.{above_is, ok_map, retold}
 use Rattle.par_pool.specs.Plans.{planned}
-use Rattle.par_jobs.proofs.runs.last.Goals as goal
+use Rattle.par_jobs.proofs.runs.last_pooled.Goals as goal
 
 pub returns-clause-above : goal.returns-clause-above
 returns-clause-above g c =
