@@ -130,9 +130,9 @@ where
     };
     let fails = Not { inner: test };
     let again = source.dup();
-    let (parts, audit) = spanned_pooled(rt, alloc, source, &fails, &kept, plan)?;
-    match fault_here(again, &fails, parts.end) {
-        None => Ok((Tried::Got(parts.suffix.result()?), audit)),
+    let (sides, audit) = spanned_pooled(rt, alloc, source, &fails, &kept, plan)?;
+    match fault_here(again, &fails, sides.end) {
+        None => Ok((Tried::Got(sides.suffix.result()?), audit)),
         Some(fault) => Ok((Tried::Fault(fault), audit)),
     }
 }

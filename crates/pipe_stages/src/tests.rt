@@ -7,15 +7,18 @@ ghost use Rattle.pipe_checks.specs.declared.uses.Want.TheVariants.{Shown as Show
 ghost use Rattle.pipe_steps.specs.Said.{middle_view, named_view};
 ghost use Rattle.pipe_stages.specs.Stages.{is_sound};
 
-use crate::{StepStop, Stepped, is_built, run_step};
+use crate::{StepStop, Stepped, is_built, run_step, run_step_alone};
 use par_edge::OpenGate;
 use par_laws::{Memory, Words};
+use par_pool::Plan;
 use par_rows::{Column, ColumnKind, Row, Schema, Value, Values};
 use pipe_checks::{ValueKind, kind_of};
 use pipe_expr::{Expr, Op};
 use pipe_steps::{Named, Step};
 use std::alloc::Global;
+use std::sync::Wait;
 use std::test::Fail;
+use std::thread::Threads;
 
 fn words(alloc: Global, text: &str) -> Result<Words, Memory> {
     Words::from_text(alloc, text)
@@ -248,8 +251,14 @@ fn text_of(alloc: Global, stepped: &Stepped<'_>) -> Result<String, Memory> {
     Ok(text)
 }
 
-// What a step gives: the rows, and whether there is an audit; or why it stops. None where it may not run.
-fn outcome(alloc: Global, number: usize) -> Result<Option<(String, bool)>, Memory> {
+// What a step gives by so many workers: the rows, and whether there is an audit; or why it stops. None where it may not
+// run.
+fn outcome<R: Threads + Wait + Sync>(
+    rt: &R,
+    alloc: Global,
+    number: usize,
+    workers: u32,
+) -> Result<Option<(String, bool)>, Memory> {
     let schema = schema(alloc)?;
     let table = table(alloc)?;
     let step = step(alloc, number)?;
@@ -260,7 +269,17 @@ fn outcome(alloc: Global, number: usize) -> Result<Option<(String, bool)>, Memor
     if !is_built(&step) || !is_sound(&schema.columns, &step) || rows.len() > 1000 {
         return Ok(None);
     }
-    match run_step(alloc, &step, &schema, rows.as_slice(), 4, &OpenGate) {
+    let plan = Plan {
+        workers: workers.clamp(1, 64),
+        level: 4,
+        gate: &OpenGate,
+    };
+    let ran = if workers == 1 {
+        run_step_alone(alloc, &step, &schema, rows.as_slice(), 4, &OpenGate)
+    } else {
+        run_step(rt, alloc, &step, &schema, rows.as_slice(), &plan)
+    };
+    match ran {
         Ok((stepped, audit)) => Ok(Some((text_of(alloc, &stepped)?, audit.is_some()))),
         Err(StepStop::Fault(fault)) => {
             let text = format!(in alloc; "fault {} {}", fault.at, fault.kind)?;
@@ -301,13 +320,15 @@ fn steps(rt: HostRuntime) -> Result<(), Fail> {
         ("fault 2 1", false),
         ("1|x,y|;", true),
     ];
-    for (number, (rows, audited)) in cases.iter().enumerate() {
-        match outcome(rt.alloc(), number)? {
-            Some((text, has_audit)) => {
-                assert_eq!(rt; text.as_str(), *rows);
-                assert_eq!(rt; has_audit, *audited);
+    for workers in [1, 2, 4] {
+        for (number, (rows, audited)) in cases.iter().enumerate() {
+            match outcome(&rt, rt.alloc(), number, workers)? {
+                Some((text, has_audit)) => {
+                    assert_eq!(rt; text.as_str(), *rows);
+                    assert_eq!(rt; has_audit, *audited);
+                }
+                None => return Err("a step did not run".into()),
             }
-            None => return Err("a step did not run".into()),
         }
     }
     Ok(())

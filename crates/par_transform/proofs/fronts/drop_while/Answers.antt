@@ -12,10 +12,10 @@ returns-in_ok-result-in-None-clause-answer g c =
     let verdict = g.P.Test.verdict c.args.test.now in
     let items = g.S.Splitter.items c.args.source in
     let made = g.F.Mapper.mapped c.args.of.now in
-    let end = c.in_ok-parts.parts.end in
+    let end = c.in_ok-sides.sides.end in
     tried_got (fault_of low_flag (map (λ x. contrary (verdict x)) items)) (λ out. g.C.Combiner.stands out (map made (lists.drop_while (λ x. passes (verdict x)) items))) c.in_ok-result-in-None.field-0
-    (ap (fault_at (map (λ x. contrary (verdict x)) items)) (sym c.in_ok-parts.ensures.end)
+    (ap (fault_at (map (λ x. contrary (verdict x)) items)) (sym c.in_ok-sides.ensures.end)
     ∙ (ap (λ xs. fault_at (map (λ x. contrary (verdict x)) xs) end) (sym c.dup-again.ensures.items_same)
     ∙ (sym c.fault_here.ensures ∙ c.in-None.is)))
     (subst (λ n. g.C.Combiner.stands c.in_ok-result-in-None.field-0 (map made (drop n items))) (contrary_stop verdict items)
-    (c.in_ok-result-in-None.ensures _ c.in_ok-parts.ensures.suffix))
+    (c.in_ok-result-in-None.ensures _ c.in_ok-sides.ensures.suffix))
