@@ -12,6 +12,8 @@
 
 mod built;
 mod files;
+#[cfg(test)]
+mod gate_tests;
 mod lines;
 mod outcome;
 mod program;

@@ -23,7 +23,7 @@ returns-then-listed-clause-audit g c =
     let count : c.remaining-n.result ≡ length source = c.remaining-n.ensures ∙ ap length c.requires.source.1 in
     let most : c.threshold-t.result ≡ threshold_of (length source) level = c.threshold-t.ensures ∙ ap (λ (v : ℕ). threshold_of v level) count in
     let audit = audit_of (λ v. v.items) lists kind marks (λ v k. All-contains (λ l. IsList kind marks l.items) lists v c.in_ok-bundle.ensures.lists k) _ _ _ leaves tiling _ _ _ whole.comes in
-    let many : c.args.plan.now.workers ≡ 1 → ⊥ = λ e. omega (arith, e, c.if-workers.false, c.crew-workers.ensures) in
+    let many : c.args.plan.now.workers ≡ 1 → ⊥ = λ e. omega (arith, e, c.if-workers-lt2.false, c.crew-workers.ensures) in
     rw c.of.ensures (record {
       audit = subst (λ (x : ℕ). IsAudit kind marks x (threshold_of (length source) level) c.args.plan.now.workers leaves) count
           (subst (λ (y : ℕ). IsAudit kind marks c.remaining-n.result y c.args.plan.now.workers leaves) most audit);
