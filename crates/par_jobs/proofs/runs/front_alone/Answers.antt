@@ -30,4 +30,4 @@ pub returns-clause-audit : goal.returns-clause-audit
 returns-clause-audit g c =
     retold g.S.Splitter.items c.over.result c.dup-split.result c.args.source c.args.test.now _ c.run_alone.result
     (λ p xs a. IsRunOver low_flag (g.P.Test.verdict p) xs (alone c.args.level) a.1) c.over.ensures c.dup-split.ensures.items_same
-    (ran_alone low_flag _ _ (alone c.args.level) c.run_alone.result c.run_alone.ensures.audit c.run_alone.ensures.chain c.run_alone.ensures.tested)
+    (ran_alone low_flag _ _ c.args.level c.run_alone.result c.run_alone.ensures.audit c.run_alone.ensures.chain c.run_alone.ensures.tested)

@@ -19,4 +19,4 @@ pub returns-clause-audit : goal.returns-clause-audit
 returns-clause-audit g c =
     let same = ap (λ m. g.S.Splitter.items m.split) c.over.ensures ∙ c.dup-split.ensures.items_same in
     subst (λ xs. IfOk c.run_alone.result (λ a. IsRunOver no_test untested xs (alone c.args.level) a.1)) same
-    (ran_alone no_test untested _ (alone c.args.level) c.run_alone.result c.run_alone.ensures.audit c.run_alone.ensures.chain c.run_alone.ensures.tested)
+    (ran_alone no_test untested _ c.args.level c.run_alone.result c.run_alone.ensures.audit c.run_alone.ensures.chain c.run_alone.ensures.tested)

@@ -6,7 +6,7 @@ use Rattle.par_pool.specs.Plans.{planned}
 use Rattle.par_jobs.proofs.runs.gather_pooled.Goals as goal
 
 pub run_job-requires-clause-marks : goal.run_job-requires-clause-marks
-run_job-requires-clause-marks g c = rw (c.over-marks.ensures ∙ sym c.over.ensures) (never_marks _ _)
+run_job-requires-clause-marks g c = λ κs within. rw (c.over-marks.ensures ∙ sym c.over.ensures) (never_marks _ _)
 
 pub returns-clause-built : goal.returns-clause-built
 returns-clause-built g c =
