@@ -28,6 +28,8 @@ mod keeping;
 mod last;
 mod looking;
 mod low;
+#[cfg(test)]
+mod pooled_tests;
 mod runs;
 mod search;
 mod sift;

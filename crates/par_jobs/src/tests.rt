@@ -20,9 +20,9 @@ use std::test::Fail;
 
 /// Passes `least` and more, but has no truth value for `faulty`.
 #[derive(Clone, Copy, Drop)]
-struct Rule {
-    least: i64,
-    faulty: i64,
+pub(crate) struct Rule {
+    pub(crate) least: i64,
+    pub(crate) faulty: i64,
 }
 
 impl Test<i64> for Rule {
@@ -43,7 +43,7 @@ impl Test<i64> for Rule {
     }
 }
 
-struct Same;
+pub(crate) struct Same;
 
 impl Mapper<i64, i64> for Same {
     ghost mapped = { λ _ x. x };
@@ -54,7 +54,7 @@ impl Mapper<i64, i64> for Same {
 }
 
 // The numbers from a on and before b, if they are few.
-fn from_to(a: i64, b: i64) -> Option<RangeSplitter>
+pub(crate) fn from_to(a: i64, b: i64) -> Option<RangeSplitter>
     ensures place { IfSome result (λ s. ⟦<RangeSplitter as Splitter>⟧.lo s ≡ 0) }
     ensures few { IfSome result (λ s. length (⟦<RangeSplitter as Splitter>⟧.items s) ≤ 3000) }
 {

@@ -42,6 +42,8 @@ pub fn filter<
 ) -> Result<(Tried<C::Out>, Audit), Memory>
 where
     S::Item: Send,
+    C::Item: Send,
+    C::Out: Send,
     requires begins { S.lo source ≡ 0 }
     requires small { length (S.items source) ≤ 4194304 }
     requires level { (1 ≤ plan.now.level) × (plan.now.level ≤ 64) }
@@ -113,6 +115,8 @@ pub fn filter_not<
 ) -> Result<(Tried<C::Out>, Audit), Memory>
 where
     S::Item: Send,
+    C::Item: Send,
+    C::Out: Send,
     requires begins { S.lo source ≡ 0 }
     requires small { length (S.items source) ≤ 4194304 }
     requires level { (1 ≤ plan.now.level) × (plan.now.level ≤ 64) }
@@ -184,6 +188,8 @@ pub fn collect<
 ) -> Result<(Tried<C::Out>, Audit), Memory>
 where
     S::Item: Send,
+    C::Item: Send,
+    C::Out: Send,
     requires begins { S.lo source ≡ 0 }
     requires small { length (S.items source) ≤ 4194304 }
     requires level { (1 ≤ plan.now.level) × (plan.now.level ≤ 64) }
@@ -239,6 +245,8 @@ pub fn partition<
 ) -> Result<(Tried<(C::Out, C::Out)>, Audit), Memory>
 where
     S::Item: Send,
+    C::Item: Send,
+    C::Out: Send,
     requires begins { S.lo source ≡ 0 }
     requires small { length (S.items source) ≤ 4194304 }
     requires level { (1 ≤ plan.now.level) × (plan.now.level ≤ 64) }

@@ -31,6 +31,8 @@ pub fn map<
 >(rt: &T, alloc: Global, source: S, of: &F, plan: &Plan<'_, G>) -> Result<(C::Out, Audit), Memory>
 where
     S::Item: Send,
+    C::Item: Send,
+    C::Out: Send,
     requires begins { S.lo source ≡ 0 }
     requires small { length (S.items source) ≤ 4194304 }
     requires level { (1 ≤ plan.now.level) × (plan.now.level ≤ 64) }
@@ -79,6 +81,8 @@ pub fn zip<
 ) -> Result<(C::Out, Audit), Memory>
 where
     S::Item: Send,
+    C::Item: Send,
+    C::Out: Send,
     R::Item: Send,
     requires begins { S.lo source ≡ 0 }
     requires small { length (S.items source) ≤ 4194304 }
@@ -136,6 +140,8 @@ pub fn zip_with_index<
 >(rt: &T, alloc: Global, source: S, of: &F, plan: &Plan<'_, G>) -> Result<(C::Out, Audit), Memory>
 where
     S::Item: Send,
+    C::Item: Send,
+    C::Out: Send,
     requires begins { S.lo source ≡ 0 }
     requires small { length (S.items source) ≤ 4194304 }
     requires level { (1 ≤ plan.now.level) × (plan.now.level ≤ 64) }
@@ -177,6 +183,8 @@ pub fn reverse<
 >(rt: &T, alloc: Global, source: S, of: &F, plan: &Plan<'_, G>) -> Result<(C::Out, Audit), Memory>
 where
     S::Item: Send,
+    C::Item: Send,
+    C::Out: Send,
     requires begins { S.lo source ≡ 0 }
     requires small { length (S.items source) ≤ 4194304 }
     requires level { (1 ≤ plan.now.level) × (plan.now.level ≤ 64) }

@@ -34,6 +34,8 @@ pub fn flat_map<
 >(rt: &T, alloc: Global, source: S, of: &F, plan: &Plan<'_, G>) -> Result<(C::Out, Audit), FlatStop>
 where
     S::Item: Send,
+    C::Item: Send,
+    C::Out: Send,
     requires begins { S.lo source ≡ 0 }
     requires small { length (S.items source) ≤ 4194304 }
     requires level { (1 ≤ plan.now.level) × (plan.now.level ≤ 64) }

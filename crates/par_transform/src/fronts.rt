@@ -42,6 +42,8 @@ pub fn take_while<
 ) -> Result<(Tried<C::Out>, Audit), Memory>
 where
     S::Item: Send,
+    C::Item: Send,
+    C::Out: Send,
     requires begins { S.lo source ≡ 0 }
     requires small { length (S.items source) ≤ 4194304 }
     requires level { (1 ≤ plan.now.level) × (plan.now.level ≤ 64) }
@@ -117,6 +119,8 @@ pub fn drop_while<
 ) -> Result<(Tried<C::Out>, Audit), Memory>
 where
     S::Item: Send,
+    C::Item: Send,
+    C::Out: Send,
     requires begins { S.lo source ≡ 0 }
     requires small { length (S.items source) ≤ 4194304 }
     requires level { (1 ≤ plan.now.level) × (plan.now.level ≤ 64) }
@@ -191,6 +195,8 @@ pub fn span<
 ) -> Result<(Tried<(C::Out, C::Out)>, Audit), Memory>
 where
     S::Item: Send,
+    C::Item: Send,
+    C::Out: Send,
     requires begins { S.lo source ≡ 0 }
     requires small { length (S.items source) ≤ 4194304 }
     requires level { (1 ≤ plan.now.level) × (plan.now.level ≤ 64) }

@@ -5,7 +5,7 @@ use Rattle.par_access.proofs.Paired.{paired_is, same_is, few_pairs}
 use Rattle.par_access.proofs.searches.same_elements.Goals as goal
 
 pub forall-requires-clause-small : goal.forall-requires-clause-small
-forall-requires-clause-small g c =
+forall-requires-clause-small g c = λ κs within.
     let l = ap length c.cut_at-left.ensures.parts.joined in
     rw (sym c.new-source.ensures.list) at (few_pairs (g.S.Splitter.items c.cut_at-left.result.0) (g.R.Splitter.items c.cut_at-right.result.0) 4194304 (omega (arith, l, length-append (g.S.Splitter.items c.cut_at-left.result.0) (g.S.Splitter.items c.cut_at-left.result.1), c.requires.small)))
 

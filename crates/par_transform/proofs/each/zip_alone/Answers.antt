@@ -5,8 +5,8 @@ use Rattle.par_jobs.specs.Runs.{IsRunOver, untested}
 use Rattle.par_task.specs.Manners.{alone}
 use Rattle.par_transform.proofs.each.zip_alone.Goals as goal
 
-pub collect_all-requires-clause-small : goal.collect_all-requires-clause-small
-collect_all-requires-clause-small g c =
+pub collect_all_alone-requires-clause-small : goal.collect_all_alone-requires-clause-small
+collect_all_alone-requires-clause-small g c =
     omega (arith, c.requires.small, ap length c.new-pairs.ensures.list, length-zip (g.S.Splitter.items c.args.source) (g.R.Splitter.items c.args.other))
 
 pub returns-clause-audit : goal.returns-clause-audit
