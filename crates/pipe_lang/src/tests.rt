@@ -46,7 +46,7 @@ fn canonical_texts_read_as_they_were(rt: HostRuntime) {
             b"pipeline 2\nfrom csv k : text , v : int\npar array\ngroupBy k as k , v % 2 as odd : count as n , max v as most\nprint\n",
         ),
         (
-            b"from range 5 until -5 by -01\nzipWithIndex as i\nzip range 0 until 100 as j\nspan(x+i)>j-3",
+            b"from range 5 until -5 by -01\nzipWithIndex as i\nzip range 0 until 100 by 01 as j\nspan(x+i)>j-3",
             b"from range 5 until -5 by -1\npar array\nzipWithIndex as i\nzip range 0 until 100 by 1 as j\nspan ( x + i ) > j - 3\n",
         ),
     ];
