@@ -1,14 +1,18 @@
 -- Lines with their numbers.
-use Rattle.std.proofs.Common.{◌≡◌, ◌+◌, ◌∷◌, ◌++◌, ◌∙◌, ◌⊎◌, sym, refl, ap, subst, inl, inr, ℕ, suc, List, [], length, map, append_assoc, append-nil, arith}
+use Rattle.std.proofs.Common.{◌≡◌, ◌<◌, ◌+◌, ◌∷◌, ◌++◌, ◌∙◌, ◌⊎◌, sym, refl, ap, subst, inl, inr, ℕ, suc, List, [], length, map, append_assoc, append-nil, arith}
 use Rattle.std.specs.Str.Lines.{lines}
 use Rattle.std.proofs.lemmas.List.{map-append}
 use Rattle.pipe_text.specs.Line.{ReadsAs}
+use Rattle.pipe_text.specs.declared.line.LineFault.{LineFault}
+use Rattle.pipe_text.specs.declared.line.LineFault.TheVariants as faults
 use Rattle.pipe_steps.specs.Said.{Said}
-use Rattle.pipe_checks.specs.Places.{Spot, next, start}
+use Rattle.pipe_checks.specs.declared.fault.Fault.{Fault}
+use Rattle.pipe_checks.specs.declared.fault.Fault.TheVariants as f
+use Rattle.pipe_checks.specs.Places.{Spot, next, rank, start}
 use Rattle.pipe_program.specs.declared.numbered.Numbered.{Numbered}
 use Rattle.pipe_program.specs.declared.refusal.ParseStop.{ParseStop}
 use Rattle.pipe_program.specs.declared.refusal.ParseStop.TheVariants as stops
-use Rattle.pipe_program.specs.Reading.{AreNumbered, IsRefusedText, Notes, NumberedFrom, ReadsFrom, RefusedFrom, Says, Stops, StopsLine, numbered}
+use Rattle.pipe_program.specs.Reading.{AreNumbered, IsOfLine, IsRefusedText, Notes, NumberedFrom, ReadsFrom, RefusedFrom, RefusesLine, Says, Stops, StopsLine, early, numbered}
 use Rattle.pipe_program.proofs.Settled.{Laws, same_saying, silent_says}
 
 -- ---- what is left from here on, and how it bears on the whole
@@ -24,6 +28,35 @@ behind_none text p e = record { count = omega arith; said = λ zs h. rw e at h; 
 pub behind_stop : (text rest line behind : List ℕ) (p : Spot) (n : ℕ) (zs : List (ℕ × Said)) (e : ParseStop) → lines rest ≡ line ∷ lines behind → IsBehind text p n rest zs → StopsLine p line n e → Stops text e
 behind_stop text rest line behind p n zs (stops.Refused r) w b h = b.refused r.line r.kind (rw w (inl (h.0, h.1)))
 behind_stop text rest line behind p n zs stops.Memory w b h = tt
+
+-- ---- the refusals of lines have kinds below 13
+
+early_below : (e : LineFault) → early e < 13
+early_below faults.Utf8 = omega arith
+early_below faults.Token = omega arith
+early_below faults.Long = omega arith
+early_below faults.Memory = omega arith
+
+rank_below : (k : Fault) → rank k < 13
+rank_below f.Step = omega arith
+rank_below f.Shape = omega arith
+rank_below f.Number = omega arith
+rank_below f.Depth = omega arith
+rank_below f.Name = omega arith
+rank_below f.Type = omega arith
+rank_below f.Zero = omega arith
+rank_below f.Columns = omega arith
+rank_below f.Steps = omega arith
+
+kind_below : (p : Spot) (line : List ℕ) (kind : ℕ) → RefusesLine p line kind → kind < 13
+kind_below p line kind h = elim h [
+  | inl g ↦ let below = early_below g.0 in omega (arith, g.3, below)
+  | inr g ↦ let below = rank_below g.2 in omega (arith, g.5, below)
+]
+
+pub of_line : (p : Spot) (line : List ℕ) (n : ℕ) (e : ParseStop) → StopsLine p line n e → IsOfLine e
+of_line p line n (stops.Refused r) h = λ q. let below = kind_below p line r.kind h.1 in omega (arith, q, below)
+of_line p line n stops.Memory h = tt
 
 pub behind_silent : (text rest line behind : List ℕ) (p : Spot) (n : ℕ) (zs : List (ℕ × Said)) → lines rest ≡ line ∷ lines behind → IsBehind text p n rest zs → ReadsAs line [] → IsBehind text p (suc n) behind zs
 behind_silent text rest line behind p n zs w b h = record {

@@ -83,6 +83,11 @@ abbrev pub Stops : List ℕ → ParseStop → Type 0
 Stops text (stops.Refused r) = IsRefusedText text r.line r.kind
 Stops text stops.Memory = Unit {0}
 
+-- a refusal is that of a line, and not that of a text which ends too soon
+abbrev pub IsOfLine : ParseStop → Type 0
+IsOfLine (stops.Refused r) = r.kind ≢ 13
+IsOfLine stops.Memory = Unit {0}
+
 -- why a line with this number wasn't taken in its place
 abbrev pub StopsLine : Spot → List ℕ → ℕ → ParseStop → Type 0
 StopsLine p line n (stops.Refused r) = (r.line ≡ n) × RefusesLine p line r.kind

@@ -3,7 +3,7 @@
 ghost use Rattle.std.specs.Prelude.{◌<◌, length, map, IfOk, IfErr};
 ghost use Rattle.std.specs.Str.Lines.{lines};
 ghost use Rattle.pipe_checks.specs.Places.{spot};
-ghost use Rattle.pipe_program.specs.Reading.{AreNumbered, Notes, Stops, StopsLine, numbered};
+ghost use Rattle.pipe_program.specs.Reading.{AreNumbered, IsOfLine, Notes, Stops, StopsLine, numbered};
 
 use crate::reading::read_one;
 use crate::refusal::ParseStop;
@@ -46,6 +46,7 @@ pub fn numbered_lines(alloc: Global, text: &[u8]) -> Result<Vec<Numbered>, Parse
     requires { length (lines text.now) < 4294967295 }
     ensures said { IfOk result (λ v. AreNumbered text.now (map numbered v.items)) }
     ensures stopped { IfErr result (λ e. Stops text.now e) }
+    ensures of_line { IfErr result IsOfLine }
 {
     let mut place = Place::start(alloc);
     let mut all = Vec::new(alloc);

@@ -3,7 +3,7 @@ use Rattle.std.specs.Str.Lines.{lines}
 use Rattle.std.proofs.lemmas.Result.{err_from_is_err_and}
 use Rattle.pipe_checks.specs.Places.{spot}
 use Rattle.pipe_program.specs.Reading.{numbered}
-use Rattle.pipe_program.proofs.Numbering.{behind_all, behind_more, behind_stop}
+use Rattle.pipe_program.proofs.Numbering.{behind_all, behind_more, behind_stop, of_line}
 use Rattle.pipe_program.proofs.numbered.numbered_lines.Goals as goal
 
 pub returns-in_err-place-clause-stopped : goal.returns-in_err-place-clause-stopped
@@ -11,6 +11,11 @@ returns-in_err-place-clause-stopped c =
     let p = err_from_is_err_and c.from_residual.result c.from_residual.ensures.1 in
     rw (p.1, p.2) (behind_stop c.args.text.now c.loop-line.rest.now c.in-Some.line.now c.in-Some.behind.now (spot c.loop-line.place) c.loop-line.at (map numbered c.loop-line.all.items) c.in_err-place.field-0.0
     c.in-Some.ensures.first c.loop-line.invariant c.in_err-place.ensures.stopped)
+
+pub returns-in_err-place-clause-of_line : goal.returns-in_err-place-clause-of_line
+returns-in_err-place-clause-of_line c =
+    let p = err_from_is_err_and c.from_residual.result c.from_residual.ensures.1 in
+    rw (p.1, p.2) (of_line (spot c.loop-line.place) c.in-Some.line.now c.loop-line.at c.in_err-place.field-0.0 c.in_err-place.ensures.stopped)
 
 pub overflow_add-at : goal.overflow_add-at
 overflow_add-at c =
