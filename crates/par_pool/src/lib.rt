@@ -32,3 +32,6 @@ mod worker;
 pub use plan::Plan;
 pub use pool::Pool;
 pub use run::run_job;
+
+#[cfg(test)]
+mod tests;

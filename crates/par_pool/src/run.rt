@@ -9,6 +9,7 @@ use crate::bundle::Bundle;
 use crate::check::is_tiling;
 use crate::plan::Plan;
 use crate::runs::run_all;
+use crate::shared::WorkOf;
 use par_edge::Gate;
 use par_laws::{Memory, Shown, Test};
 use par_signal::Marks;
@@ -79,17 +80,14 @@ where
         return alone.run(alloc, job, inner, marks, source);
     }
     let spare = source.dup();
-    let (bundle, lists) = run_all(
-        rt,
+    let work = WorkOf {
         alloc,
         job,
         inner,
-        marks,
-        source,
-        plan.gate,
-        workers,
-        t.max(1),
-    )?;
+        gate: plan.gate,
+        least: t.max(1),
+    };
+    let (bundle, lists) = run_all(rt, &work, marks, source, workers)?;
     let Bundle::Whole(part, leaves) = bundle else {
         return Err(Memory);
     };

@@ -1,20 +1,21 @@
 //! One run of a job by several workers.
-ghost use Rattle.std.specs.Prelude.{◌≡◌, ◌<◌, ◌≤◌, [], length, map, IfOk, All, vec_len};
+ghost use Rattle.std.specs.Prelude.{◌≡◌, ℕ, ◌<◌, ◌≤◌, [], length, map, IfOk, All, vec_len};
 ghost use Rattle.par_task.specs.Marking.{marks_of};
-ghost use Rattle.par_board.specs.Calls.{HoldsNothing, OwnsTree};
+ghost use Rattle.par_board.specs.Calls.{HasOpen, HoldsNothing, OwnsTree};
 ghost use Rattle.par_pool.specs.Bundles.{IsBundle};
 ghost use Rattle.par_pool.specs.Lists.{IsList};
 ghost use Rattle.par_pool.specs.Own.{IsOwn, IsResting};
+ghost use Rattle.par_pool.specs.World.{IsWorld};
 
 use crate::bundle::Bundle;
 use crate::crew::help_all;
-use crate::shared::{Run, RunOf};
+use crate::shared::{Run, RunOf, Work};
 use crate::tracked::Tracked;
 use crate::worker::{Hand, HandOf, WorkerOf};
 use par_board::{Board, BoardSeat};
 use par_edge::Gate;
 use par_laws::{Memory, Shown, Test};
-use par_market::{DequeMarket, DequeSeat, Market, Ticket};
+use par_market::{DequeMarket, Market, Ticket};
 use par_signal::{Marks, SignalSeat, Signals};
 use par_splitter::Splitter;
 use par_task::{Job, Leaf};
@@ -112,69 +113,130 @@ fn leaves_of<J: Job, P: Drop>(_job: &J, hand: Hand<J, P>) -> Vec<Leaf>
     leaves
 }
 
-/// Runs the job on so many workers, 2 to 64: what the root gives, and the leaves of each worker by turn, by its number.
-pub(crate) fn run_all<J: Job + Sync, M: Marks, G: Gate + Sync, R: Threads + Wait + Sync>(
+// The ticket of the root, over n items.
+fn whole(n: u32) -> Ticket {
+    Ticket {
+        node: 1,
+        lo: 0,
+        hi: n,
+    }
+}
+
+// Hires a worker for each of the run's places, and all work until the root is done: what it gives, and the lists of leaves.
+fn work_all<'r, 'a, J: Job + Sync, G: Gate + Sync, K: Market + Sync, R: Threads + Wait + Sync>(
     rt: &R,
-    alloc: Global,
-    job: &J,
-    inner: &J::Pred,
+    run: &Run<'r, 'a, J, G, K>,
+    mut root: BoardSeat<Tracked<J>>,
+    mut signal: SignalSeat,
+    mut places: Vec<K::Seat>,
+) -> Result<(Bundle<J::Part>, Vec<Vec<Leaf>>), Memory>
+where
+    J::Split: Send,
+    J::Part: Send,
+    J::Pred: Send + Sync,
+    K::Seat: Send,
+    <J::Split as Splitter>::Item: Send,
+    requires world { IsWorld J.kind (J.source run.now.job.now) (J.verdicts run.now.job.now) (J.Pred.verdict run.now.inner.now) run.now.signals.now.marks }
+    requires tracked { run.now.board.now.job.job.value ≡ run.now.job.now }
+    requires least { 1 ≤ run.now.least }
+    requires root { (root.of ≡ run.now.board.now.of) × HasOpen 1 0 (length (J.source run.now.job.now)) root }
+    requires signal { signal.of ≡ run.now.signals.now }
+    requires places { (1 ≤ vec_len places) × (vec_len places ≤ 64) × All (K.is_of run.now.market.now) places.items }
+    ensures bundle { IfOk result (λ r. IsBundle J.kind (marks_of J.kind (J.verdicts run.now.job.now)) (J.good run.now.job.now) (J.merges run.now.job.now) J.Part.shown 0 (length (J.source run.now.job.now)) r.0) }
+    ensures lists { IfOk result (λ r. All (λ l. IsList J.kind (marks_of J.kind (J.verdicts run.now.job.now)) l.items) r.1.items) }
+{
+    let place = places.remove(0);
+    let mut first = hire(
+        run.alloc,
+        run.signals,
+        run.board,
+        &mut root,
+        &mut signal,
+        place,
+        0,
+    )?;
+    let others = hire_all(
+        run.alloc,
+        run.signals,
+        run.board,
+        &mut root,
+        &mut signal,
+        run.market,
+        places,
+    )?;
+    let _ = run
+        .market
+        .post(rt, &mut first.place, whole(run.board.count()));
+    let (first, others) = help_all(rt, run.alloc, run, first, others);
+    let bundle = run.wait_for(rt, &mut root, 1);
+    Ok((bundle, lists_of(run.alloc, run.job, first, others)?))
+}
+
+/// Runs the job by workers that meet at this market, one for each of its places, 1 to 64: what the root gives, and the
+/// leaves of each worker by turn, by its number.
+pub(crate) fn run_on<
+    J: Job + Sync,
+    M: Marks,
+    G: Gate + Sync,
+    K: Market + Sync,
+    R: Threads + Wait + Sync,
+>(
+    rt: &R,
+    work: &Work<'_, J, G>,
     marks: &M,
     source: J::Split,
-    gate: &G,
+    market: &K,
+    places: Vec<K::Seat>,
+) -> Result<(Bundle<J::Part>, Vec<Vec<Leaf>>), Memory>
+where
+    J::Split: Send,
+    J::Part: Send,
+    J::Pred: Send + Sync,
+    K::Seat: Send,
+    <J::Split as Splitter>::Item: Send,
+    requires source { (J.Split.lo source ≡ 0) × (J.Split.items source ≡ J.source work.now.job.now) }
+    requires small { length (J.source work.now.job.now) ≤ 4194304 }
+    requires test { map (J.Pred.verdict work.now.inner.now) (J.source work.now.job.now) ≡ J.verdicts work.now.job.now }
+    requires marks { M.marks marks.now ≡ marks_of J.kind (J.verdicts work.now.job.now) }
+    requires least { 1 ≤ work.now.least }
+    requires places { (1 ≤ vec_len places) × (vec_len places ≤ 64) × All (K.is_of market.now) places.items }
+    ensures bundle { IfOk result (λ r. IsBundle J.kind (marks_of J.kind (J.verdicts work.now.job.now)) (J.good work.now.job.now) (J.merges work.now.job.now) J.Part.shown 0 (length (J.source work.now.job.now)) r.0) }
+    ensures lists { IfOk result (λ r. All (λ l. IsList J.kind (marks_of J.kind (J.verdicts work.now.job.now)) l.items) r.1.items) }
+{
+    let n = source.remaining();
+    let (signals, signal) = Signals::open(work.alloc, marks, n)?;
+    let tracked = Tracked {
+        job: Snapshot::of(work.job),
+    };
+    let (board, mut root) = Board::open(work.alloc, &tracked, n)?;
+    board.offer(&mut root, 1, source);
+    let run = RunOf::over(work, &signals, &board, market);
+    work_all(rt, &run, root, signal, places)
+}
+
+/// Runs the job on so many workers, 1 to 64, over deques: what the root gives, and the leaves of each worker by turn, by its
+/// number.
+pub(crate) fn run_all<J: Job + Sync, M: Marks, G: Gate + Sync, R: Threads + Wait + Sync>(
+    rt: &R,
+    work: &Work<'_, J, G>,
+    marks: &M,
+    source: J::Split,
     workers: u32,
-    least: u32,
 ) -> Result<(Bundle<J::Part>, Vec<Vec<Leaf>>), Memory>
 where
     J::Split: Send,
     J::Part: Send,
     J::Pred: Send + Sync,
     <J::Split as Splitter>::Item: Send,
-    requires source { (J.Split.lo source ≡ 0) × (J.Split.items source ≡ J.source job.now) }
-    requires small { length (J.source job.now) ≤ 4194304 }
-    requires test { map (J.Pred.verdict inner.now) (J.source job.now) ≡ J.verdicts job.now }
-    requires marks { M.marks marks.now ≡ marks_of J.kind (J.verdicts job.now) }
+    requires source { (J.Split.lo source ≡ 0) × (J.Split.items source ≡ J.source work.now.job.now) }
+    requires small { length (J.source work.now.job.now) ≤ 4194304 }
+    requires test { map (J.Pred.verdict work.now.inner.now) (J.source work.now.job.now) ≡ J.verdicts work.now.job.now }
+    requires marks { M.marks marks.now ≡ marks_of J.kind (J.verdicts work.now.job.now) }
     requires workers { (1 ≤ workers) × (workers ≤ 64) }
-    requires least { 1 ≤ least }
-    ensures bundle { IfOk result (λ r. IsBundle J.kind (marks_of J.kind (J.verdicts job.now)) (J.good job.now) (J.merges job.now) J.Part.shown 0 (length (J.source job.now)) r.0) }
-    ensures lists { IfOk result (λ r. All (λ l. IsList J.kind (marks_of J.kind (J.verdicts job.now)) l.items) r.1.items) }
+    requires least { 1 ≤ work.now.least }
+    ensures bundle { IfOk result (λ r. IsBundle J.kind (marks_of J.kind (J.verdicts work.now.job.now)) (J.good work.now.job.now) (J.merges work.now.job.now) J.Part.shown 0 (length (J.source work.now.job.now)) r.0) }
+    ensures lists { IfOk result (λ r. All (λ l. IsList J.kind (marks_of J.kind (J.verdicts work.now.job.now)) l.items) r.1.items) }
 {
-    let n = source.remaining();
-    let (signals, mut signal) = Signals::open(alloc, marks, n)?;
-    let tracked = Tracked {
-        job: Snapshot::of(job),
-    };
-    let (board, mut root) = Board::open(alloc, &tracked, n)?;
-    let (market, mut places) = DequeMarket::open(alloc, workers)?;
-    let mut place = places.remove(0);
-    board.offer(&mut root, 1, source);
-    let ticket = Ticket {
-        node: 1,
-        lo: 0,
-        hi: n,
-    };
-    let _ = market.post(rt, &mut place, ticket);
-    let first = hire(alloc, &signals, &board, &mut root, &mut signal, place, 0)?;
-    let others = hire_all(
-        alloc,
-        &signals,
-        &board,
-        &mut root,
-        &mut signal,
-        &market,
-        places,
-    )?;
-    let run = RunOf {
-        alloc,
-        job,
-        inner,
-        signals: &signals,
-        gate,
-        board: &board,
-        market: &market,
-        least,
-    };
-    let (first, others) = help_all(rt, alloc, &run, first, others);
-    let bundle = run.wait_for(rt, &mut root, 1);
-    let lists = lists_of(alloc, job, first, others)?;
-    Ok((bundle, lists))
+    let (market, places) = DequeMarket::open(work.alloc, workers)?;
+    run_on(rt, work, marks, source, &market, places)
 }

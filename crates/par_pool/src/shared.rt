@@ -1,9 +1,24 @@
 //! What all workers of a run share.
+ghost use Rattle.std.specs.Prelude.{◌≡◌};
+
 use crate::tracked::Tracked;
 use par_board::Board;
 use par_signal::Signals;
 use par_task::Job;
 use std::alloc::Global;
+
+/// A job as its workers run it: with its test, and who is told of its leaves.
+#[derive(Drop)]
+pub(crate) struct WorkOf<'r, J, P, G> {
+    pub(crate) alloc: Global,
+    pub(crate) job: &'r J,
+    pub(crate) inner: &'r P,
+    pub(crate) gate: &'r G,
+    // How many items a leaf has at most, while there are nodes.
+    pub(crate) least: u32,
+}
+
+pub(crate) type Work<'r, J, G> = WorkOf<'r, J, <J as Job>::Pred, G>;
 
 /// The job and its test, and where its workers meet.
 ///
@@ -17,8 +32,31 @@ pub(crate) struct RunOf<'r, J, P, B, G, M> {
     pub(crate) gate: &'r G,
     pub(crate) board: &'r B,
     pub(crate) market: &'r M,
-    // How many items a leaf has at most, while there are nodes.
     pub(crate) least: u32,
+}
+
+impl<'r, J, P, B, G, M> RunOf<'r, J, P, B, G, M> {
+    /// The run of a job over these flags, this board and this market.
+    pub(crate) fn over(
+        work: &WorkOf<'r, J, P, G>,
+        signals: &'r Signals,
+        board: &'r B,
+        market: &'r M,
+    ) -> RunOf<'r, J, P, B, G, M>
+        ensures work { (result.job ≡ work.now.job) × (result.inner ≡ work.now.inner) × (result.least ≡ work.now.least) }
+        ensures places { (result.signals ≡ signals) × (result.board ≡ board) × (result.market ≡ market) }
+    {
+        RunOf {
+            alloc: work.alloc,
+            job: work.job,
+            inner: work.inner,
+            signals,
+            gate: work.gate,
+            board,
+            market,
+            least: work.least,
+        }
+    }
 }
 
 pub(crate) type Run<'r, 'a, J, G, M> = RunOf<'r, J, <J as Job>::Pred, Board<'a, Tracked<J>>, G, M>;
