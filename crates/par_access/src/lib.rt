@@ -1,11 +1,11 @@
 //! Folds and searches of parallel collections.
 //!
-//! A call takes the splitter of its source, and has the job of its family run over it by a function of `par_jobs`: the
-//! source is cut into leaves by the level. The call answers with the `Audit` of its leaves. What it answers is the plain list
+//! A call takes the splitter of its source, and runs the job of its family over it by a function of `par_jobs`: the source
+//! is cut into leaves by the level. The call answers with the `Audit` of its leaves. What it answers is the plain list
 //! function of the source's list.
 //!
-//! Each call has three forms. `count` runs on several threads by a `Plan`; `count` on the caller's thread, and takes
-//! neither threads nor waits; `count_by` by any `Runner`, for callers that are themselves generic over who runs them.
+//! Each call has two forms. `count` runs on several threads, by a `Plan`; `count_alone` on the caller's thread, and takes
+//! neither threads nor waits. They have one contract, but for what an audit tells and that `find` may name any item.
 //!
 //! | Calls | Answer |
 //! |---|---|
@@ -23,27 +23,25 @@
 //! and its number of workers are 1 to 64. Its one error is want of memory.
 #![tactic(auto)]
 
-mod alone;
 mod counts;
 mod faults;
 mod folds;
 mod gathering;
 mod indexes;
-mod pooled;
 mod searches;
 #[cfg(test)]
 mod tests;
 
-pub use alone::{
-    aggregate_alone, count_alone, exists_alone, find_alone, fold_alone, forall_alone,
-    index_where_alone, last_index_where_alone, max_alone, min_alone, product_alone,
-    reduce_option_alone, same_elements_alone, segment_length_alone, sum_alone,
+pub use counts::{count, count_alone};
+pub use folds::{
+    aggregate, aggregate_alone, fold, fold_alone, max, max_alone, min, min_alone, product,
+    product_alone, reduce_option, reduce_option_alone, sum, sum_alone,
 };
-pub use counts::count_by;
-pub use folds::{aggregate_by, fold_by, max_by, min_by, product_by, reduce_option_by, sum_by};
-pub use indexes::{index_where_by, last_index_where_by, segment_length_by};
-pub use pooled::{
-    aggregate, count, exists, find, fold, forall, index_where, last_index_where, max, min, product,
-    reduce_option, same_elements, segment_length, sum,
+pub use indexes::{
+    index_where, index_where_alone, last_index_where, last_index_where_alone, segment_length,
+    segment_length_alone,
 };
-pub use searches::{exists_by, find_by, forall_by, same_elements_by};
+pub use searches::{
+    exists, exists_alone, find, find_alone, forall, forall_alone, same_elements,
+    same_elements_alone,
+};

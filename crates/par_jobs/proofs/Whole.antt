@@ -4,11 +4,24 @@ use Rattle.std.proofs.lemmas.Bool.{cases_lt}
 use Rattle.std.proofs.lemmas.List.{length-map, take_all, length-drop}
 use Rattle.par_laws.specs.Marks.{stop, last}
 use Rattle.par_laws.specs.declared.test.Verdict.{Verdict}
+use Rattle.par_task.specs.declared.audit.Leaf.{Leaf}
 use Rattle.par_task.specs.Marking.{Kind, low_flag, high_flag, marks_of, is_mark, no_test}
 use Rattle.par_task.specs.MarkedBy.{MarkedBy, marks_by}
+use Rattle.par_task.specs.Audits.{IsAudit, threshold_of}
+use Rattle.par_task.specs.Alone.{IsOneChain, TestsInAll}
+use Rattle.par_task.specs.Manners.{alone}
 use Rattle.par_task.specs.Parts.{between, IsFront, IsSpanned, IsLastIn}
 use Rattle.par_task.proofs.Stops.{stop_within, last_within}
-use Rattle.par_jobs.specs.Runs.{untested}
+use Rattle.par_jobs.specs.Runs.{IsRunOver, untested}
+
+-- three facts of an answer, where there is one, are one
+pub ran_alone :
+    {X P E : Type 0} (kind : Kind) (verdict : X → Verdict) (items : List X) (level : ℕ) (r : Result (P × List Leaf) E) →
+    IfOk r (λ a. IsAudit kind (marks_of kind (map verdict items)) (length items) (threshold_of (length items) level) 1 a.1) →
+    IfOk r (λ a. IsOneChain a.1) → IfOk r (λ a. TestsInAll kind (marks_of kind (map verdict items)) a.1) →
+    IfOk r (λ a. IsRunOver kind verdict items (alone level) a.1)
+ran_alone kind verdict items level (Ok a) audit chain tested = record { audit = audit; chain = λ _. chain; tested = λ _. tested }
+ran_alone kind verdict items level (Err e) audit chain tested = tt
 
 -- a test that no item passes marks none
 pub never_marks : {X : Type 0} (faults : Bool) (xs : List X) → map (marks_by faults) (map untested xs) ≡ map (is_mark no_test) (map untested xs)

@@ -9,8 +9,8 @@
 //! | `SearchJob` | ends at any marked item | `find`, `exists`, `forall`, `sameElements` |
 //! | `LastJob` | looks for the last marked item | `lastIndexWhere` |
 //!
-//! Each job has a function that has a `Runner` run it whole over a source, and says of its part what it means for the
-//! source's list: `gather_by`, `sift_by`, `front_by`, `spanned_by`, `search_by` and `last_by`. A test
+//! Each job has two functions that run it whole over a source, and say of its part what it means for the source's list:
+//! `gather`, `sift`, `front`, `spanned`, `search` and `last` on several threads, and the same with `_alone` on the caller's. A test
 //! may find that an item has no truth value; which item's fault is then the call's says `fault_of` of specs/Faults, and
 //! `fault_here` and `fault_before` look at the one item that ended a job. What an audit tells is `IsRunOver` of specs/Runs.
 //!
@@ -40,7 +40,10 @@ pub use front::{Front, FrontJob};
 pub use gather::GatherJob;
 pub use last::LastJob;
 pub use looking::{fault_before, fault_here};
-pub use runs::{front_by, gather_by, last_by, search_by, sift_by, spanned_by};
+pub use runs::{
+    front, front_alone, gather, gather_alone, last, last_alone, search, search_alone, sift,
+    sift_alone, spanned, spanned_alone,
+};
 pub use search::{SearchJob, Sought};
 pub use sift::{SiftJob, Sifted};
 pub use span::{SpanJob, Spanned};

@@ -7,13 +7,13 @@ ghost use Rattle.par_task.specs.Marking.{low_flag, marks_of};
 use crate::fault::is_halt;
 use crate::{
     Counting, Folding, Front, FrontJob, Listing, Sifted, Sought, Spanned, fault_before, fault_here,
-    front_by, gather_by, last_by, search_by, sift_by, spanned_by,
+    front_alone, gather_alone, last_alone, search_alone, sift_alone, spanned_alone,
 };
 use par_edge::OpenGate;
 use par_laws::{FaultAt, Mapper, Memory, Probe, Sum, Test, Verdict};
 use par_signal::{SignalSeat, Signals};
 use par_splitter::{Cut, Precise, RangeSplitter, Splitter, range_count};
-use par_task::{Alone, Audit, Leaf, Marked, Place, run_leaf};
+use par_task::{Audit, Leaf, Marked, Place, run_leaf};
 use std::alloc::Global;
 use std::marker::PhantomData;
 use std::test::Fail;
@@ -82,11 +82,7 @@ fn front(
         of: &Same,
         out: PhantomData,
     };
-    let alone = Alone {
-        level,
-        gate: &OpenGate,
-    };
-    front_by(&alone, alloc, source, test, &list)
+    front_alone(alloc, source, test, &list, level, &OpenGate)
 }
 
 fn span(
@@ -101,31 +97,14 @@ fn span(
         of: &Same,
         out: PhantomData,
     };
-    spanned_by(
-        &Alone {
-            level: 4,
-            gate: &OpenGate,
-        },
-        alloc,
-        source,
-        test,
-        &list,
-    )
+    spanned_alone(alloc, source, test, &list, 4, &OpenGate)
 }
 
 fn last(alloc: Global, source: RangeSplitter, test: &Rule) -> Result<u32, Memory>
     requires place { ⟦<RangeSplitter as Splitter>⟧.lo source ≡ 0 }
     requires few { length (⟦<RangeSplitter as Splitter>⟧.items source) ≤ 3000 }
 {
-    let (part, _) = last_by(
-        &Alone {
-            level: 4,
-            gate: &OpenGate,
-        },
-        alloc,
-        source,
-        test,
-    )?;
+    let (part, _) = last_alone(alloc, source, test, 4, &OpenGate)?;
     Ok(part)
 }
 
@@ -133,15 +112,7 @@ fn search(alloc: Global, source: RangeSplitter, test: &Rule) -> Result<(Sought, 
     requires place { ⟦<RangeSplitter as Splitter>⟧.lo source ≡ 0 }
     requires few { length (⟦<RangeSplitter as Splitter>⟧.items source) ≤ 3000 }
 {
-    search_by(
-        &Alone {
-            level: 4,
-            gate: &OpenGate,
-        },
-        alloc,
-        source,
-        test,
-    )
+    search_alone(alloc, source, test, 4, &OpenGate)
 }
 
 fn sift(alloc: Global, source: RangeSplitter, test: &Rule) -> Result<Sifted<Vec<i64>, u32>, Memory>
@@ -152,17 +123,7 @@ fn sift(alloc: Global, source: RangeSplitter, test: &Rule) -> Result<Sifted<Vec<
         of: &Same,
         out: PhantomData,
     };
-    let (part, _) = sift_by(
-        &Alone {
-            level: 4,
-            gate: &OpenGate,
-        },
-        alloc,
-        source,
-        test,
-        &list,
-        &Counting,
-    )?;
+    let (part, _) = sift_alone(alloc, source, test, &list, &Counting, 4, &OpenGate)?;
     Ok(part)
 }
 
@@ -301,15 +262,7 @@ fn sifts(rt: HostRuntime) -> Result<(), Fail> {
 #[test]
 fn folds_a_range(rt: HostRuntime) -> Result<(), Fail> {
     let source = from_to(0, 5).ok_or("few")?;
-    let (sum, audit) = gather_by(
-        &Alone {
-            level: 4,
-            gate: &OpenGate,
-        },
-        rt.alloc(),
-        source,
-        &Folding { how: &Sum },
-    )?;
+    let (sum, audit) = gather_alone(rt.alloc(), source, &Folding { how: &Sum }, 4, &OpenGate)?;
     assert_eq!(rt; sum, 10);
     assert_eq!(rt; audit.leaves().len(), 3);
     Ok(())

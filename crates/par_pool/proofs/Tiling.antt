@@ -6,9 +6,9 @@ use Rattle.std.proofs.lemmas.List.Elements.{All-contains, Contains-get_or, Conta
 use mathlib.Core.Logic.{dite}
 use native.Mathlib.Decide.{ℕ_discrete}
 use Rattle.par_task.specs.Marking.{Kind}
-use Rattle.par_task.specs.Alone.{HasTurnsFrom}
+use Rattle.par_task.specs.Alone.{HasTurnsFrom, IsOneChain, TestsInAll}
 use Rattle.par_task.specs.Audits.{Adjoins, Covers, IsLeafed, Comes, one, both, HasTurns, Tiles, IsAudit, IsIdle, IsLawfulLeaf, Learns, threshold_of}
-use Rattle.par_task.specs.Manners.{IsRunBy, alone}
+use Rattle.par_task.specs.Manners.{IsRunBy}
 use Rattle.par_pool.specs.Plans.{planned}
 use Rattle.par_task.specs.declared.audit.Leaf.{Leaf}
 use Rattle.par_pool.specs.Lists.{IsList, StandsAt, IsTable, IsTiling}
@@ -141,13 +141,16 @@ audit_seats kind marks n t few seats leaves le a = record {
   idle = a.idle;
 }
 
--- what one worker tells, told of a run by as many
-pub by_more : (kind : Kind) (marks : List Bool) (n level workers : ℕ) (leaves : List Leaf) → 1 ≤ workers → IsRunBy (alone level) kind marks n leaves → IsRunBy (planned workers level) kind marks n leaves
-by_more kind marks n level workers leaves least h = record {
-  audit = audit_seats kind marks n (threshold_of n level) 1 workers leaves least h.audit;
-  chain = λ e. h.chain refl;
-  tested = λ e. h.tested refl;
+-- what the run of one worker tells, told of a run by so many
+pub by_more :
+    {P E : Type 0} (kind : Kind) (marks : List Bool) (n level workers : ℕ) (r : Result (P × List Leaf) E) → 1 ≤ workers → IfOk r (λ a. IsAudit kind marks n (threshold_of n level) 1 a.1) →
+    IfOk r (λ a. IsOneChain a.1) → IfOk r (λ a. TestsInAll kind marks a.1) → IfOk r (λ a. IsRunBy (planned workers level) kind marks n a.1)
+by_more kind marks n level workers (Ok a) least audit chain tested = record {
+  audit = audit_seats kind marks n (threshold_of n level) 1 workers a.1 least audit;
+  chain = λ _. chain;
+  tested = λ _. tested;
 }
+by_more kind marks n level workers (Err e) least audit chain tested = tt
 
 -- the leaf that a list has past its end
 abbrev pub blank : Leaf

@@ -20,7 +20,6 @@ mod leaves;
 mod offers;
 mod pause;
 mod plan;
-mod pool;
 mod run;
 mod runs;
 mod serve;
@@ -30,7 +29,6 @@ mod tracked;
 mod worker;
 
 pub use plan::Plan;
-pub use pool::Pool;
 pub use run::run_job;
 
 #[cfg(test)]

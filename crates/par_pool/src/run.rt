@@ -14,7 +14,7 @@ use par_edge::Gate;
 use par_laws::{Memory, Shown, Test};
 use par_signal::Marks;
 use par_splitter::Splitter;
-use par_task::{Alone, Audit, Job, Runner, threshold};
+use par_task::{Audit, Job, run_alone, threshold};
 use std::alloc::Global;
 use std::sync::Wait;
 use std::thread::Threads;
@@ -69,15 +69,11 @@ where
     ensures comes { IfOk result (λ r. Comes (IsLeafed J.kind (marks_of J.kind (J.verdicts job.now)) (J.good job.now)) (J.merges job.now) r.1 (J.Part.shown r.0)) }
     ensures audit { IfOk result (λ r. IsRunBy (planned plan.now.workers plan.now.level) J.kind (marks_of J.kind (J.verdicts job.now)) (length (J.source job.now)) r.1) }
 {
-    let alone = Alone {
-        level: plan.level,
-        gate: plan.gate,
-    };
     let n = source.remaining();
     let t = threshold(n, plan.level);
     let workers = crew(n, t, plan.workers);
     if workers < 2 {
-        return alone.run(alloc, job, inner, marks, source);
+        return run_alone(alloc, job, inner, marks, source, plan.level, plan.gate);
     }
     let spare = source.dup();
     let work = WorkOf {
@@ -95,5 +91,5 @@ where
     if listed {
         return Ok((part, Audit::of(leaves)));
     }
-    alone.run(alloc, job, inner, marks, spare)
+    run_alone(alloc, job, inner, marks, spare, plan.level, plan.gate)
 }

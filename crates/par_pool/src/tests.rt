@@ -365,8 +365,7 @@ fn ran_by<G: Gate + Sync, R: Threads + Wait + Sync>(
     requires level { (1 ≤ plan.now.level) × (plan.now.level ≤ 64) }
     requires workers { (1 ≤ plan.now.workers) × (plan.now.workers ≤ 64) }
 {
-    let pool = Pool { rt, plan };
-    let (part, audit) = pool.run(alloc, job, &Never, job, job.source.dup())?;
+    let (part, audit) = run_job(rt, alloc, job, &Never, job, job.source.dup(), plan)?;
     Ok(Ran { part, audit })
 }
 

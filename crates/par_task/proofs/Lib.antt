@@ -4,4 +4,3 @@ pub mod Tiling
 pub mod Stops
 pub mod Counting
 pub mod Running
-pub mod Runners

@@ -15,7 +15,6 @@ mod cutting;
 mod job;
 mod marked;
 mod run;
-mod runner;
 mod tails;
 #[cfg(test)]
 mod tests;
@@ -25,5 +24,4 @@ pub use cutting::chain;
 pub use job::{Done, Job};
 pub use marked::Marked;
 pub use run::{Place, run_alone, run_leaf, threshold};
-pub use runner::{Alone, Runner};
 pub use tails::{Chain, Tails};

@@ -5,8 +5,8 @@
 //! make, and tells of its leaves by an `Audit`. A call with a test answers `Tried`: where the test faults on an item that decides, the fault with its index and kind stands in the place of the
 //! answer.
 //!
-//! Each has three forms. `filter` runs on several threads by a `Plan`; `filter_alone` on the caller's thread, and takes neither
-//! threads nor waits; `filter_by` by any `Runner`, for callers that are themselves generic over who runs them.
+//! Each has two forms. `filter` runs on several threads, by a `Plan`; `filter_alone` on the caller's thread, and takes neither
+//! threads nor waits. They have one contract, but for what an audit tells.
 //!
 //! A source begins at place 0 and has at most 4,194,304 items, and a level and a number of workers are 1 to 64. For want of
 //! memory nothing is left behind.
@@ -22,7 +22,6 @@
 //! a call's, and `Runs` there what an audit tells. A call runs the job of its family by a function of `par_jobs`.
 #![tactic(auto)]
 
-mod alone;
 mod choices;
 mod collecting;
 mod cuts;
@@ -31,23 +30,19 @@ mod flat;
 mod flattening;
 mod fronts;
 mod gathering;
-mod pooled;
 mod reversed;
 mod stop;
 #[cfg(test)]
 mod tests;
 
-pub use alone::{
-    collect_alone, drop_while_alone, filter_alone, filter_not_alone, flat_map_alone, map_alone,
-    partition_alone, reverse_alone, span_alone, take_while_alone, zip_alone, zip_with_index_alone,
+pub use choices::{
+    collect, collect_alone, filter, filter_alone, filter_not, filter_not_alone, partition,
+    partition_alone,
 };
-pub use choices::{collect_by, filter_by, filter_not_by, partition_by};
 pub use cuts::{drop, slice, split_at, take};
-pub use each::{map_by, reverse_by, zip_by, zip_with_index_by};
-pub use flat::flat_map_by;
-pub use fronts::{drop_while_by, span_by, take_while_by};
-pub use pooled::{
-    collect, drop_while, filter, filter_not, flat_map, map, partition, reverse, span, take_while,
-    zip, zip_with_index,
+pub use each::{
+    map, map_alone, reverse, reverse_alone, zip, zip_alone, zip_with_index, zip_with_index_alone,
 };
+pub use flat::{flat_map, flat_map_alone};
+pub use fronts::{drop_while, drop_while_alone, span, span_alone, take_while, take_while_alone};
 pub use stop::FlatStop;

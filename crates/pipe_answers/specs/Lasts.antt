@@ -10,6 +10,7 @@ use Rattle.par_lists.specs.Cuts.{drop_while, place, segment_length}
 use Rattle.par_lists.specs.Searches.{index_where, last_index_where}
 use Rattle.par_rows.specs.declared.schema.Column.{Column}
 use Rattle.par_rows.specs.declared.row.Row.{Row}
+use Rattle.par_task.specs.Manners.{Manner}
 use Rattle.par_task.specs.Marking.{abort_flag, high_flag, low_flag, no_flag, no_test}
 use Rattle.par_task.specs.declared.audit.Leaf.{Leaf}
 use Rattle.par_jobs.specs.Faults.{fault_at, fault_of}
@@ -91,22 +92,22 @@ IsAnswerText cs (x.SplitAt n) rows text = text ≡ parts_text (take (place n) ro
 IsAnswerText cs _ rows text = ⊥
 
 -- The audit of a last step. That of `segmentLength` is of the rows from its index on.
-abbrev pub IsLastAudit : List Column → End → List Row → ℕ → Option (List Leaf) → Type 0
-IsLastAudit cs (x.Count e) rows level audit = IsRun no_flag (verdict_on cs e) rows level audit
-IsLastAudit cs (x.Sum e) rows level audit = IsRun no_test untested rows level audit
-IsLastAudit cs (x.Product e) rows level audit = IsRun no_test untested rows level audit
-IsLastAudit cs (x.Min e) rows level audit = IsRun no_test untested rows level audit
-IsLastAudit cs (x.Max e) rows level audit = IsRun no_test untested rows level audit
-IsLastAudit cs (x.MkString e sep) rows level audit = IsRun no_test untested rows level audit
-IsLastAudit cs (x.Find e) rows level audit = IsRun abort_flag (verdict_on cs e) rows level audit
-IsLastAudit cs (x.Exists e) rows level audit = IsRun abort_flag (verdict_on cs e) rows level audit
-IsLastAudit cs (x.Forall e) rows level audit = IsRun abort_flag (denied cs e) rows level audit
-IsLastAudit cs (x.IndexWhere e) rows level audit = IsRun low_flag (verdict_on cs e) rows level audit
-IsLastAudit cs (x.LastIndexWhere e) rows level audit = IsRun high_flag (verdict_on cs e) rows level audit
-IsLastAudit cs (x.SegmentLength e from) rows level audit = IsRun low_flag (denied cs e) (drop (place from) rows) level audit
-IsLastAudit cs (x.Span e) rows level audit = IsRun low_flag (denied cs e) rows level audit
-IsLastAudit cs (x.Partition e) rows level audit = IsRun no_flag (verdict_on cs e) rows level audit
-IsLastAudit cs _ rows level audit = audit ≡ None
+abbrev pub IsLastAudit : List Column → End → List Row → Manner → Option (List Leaf) → Type 0
+IsLastAudit cs (x.Count e) rows manner audit = IsRun no_flag (verdict_on cs e) rows manner audit
+IsLastAudit cs (x.Sum e) rows manner audit = IsRun no_test untested rows manner audit
+IsLastAudit cs (x.Product e) rows manner audit = IsRun no_test untested rows manner audit
+IsLastAudit cs (x.Min e) rows manner audit = IsRun no_test untested rows manner audit
+IsLastAudit cs (x.Max e) rows manner audit = IsRun no_test untested rows manner audit
+IsLastAudit cs (x.MkString e sep) rows manner audit = IsRun no_test untested rows manner audit
+IsLastAudit cs (x.Find e) rows manner audit = IsRun abort_flag (verdict_on cs e) rows manner audit
+IsLastAudit cs (x.Exists e) rows manner audit = IsRun abort_flag (verdict_on cs e) rows manner audit
+IsLastAudit cs (x.Forall e) rows manner audit = IsRun abort_flag (denied cs e) rows manner audit
+IsLastAudit cs (x.IndexWhere e) rows manner audit = IsRun low_flag (verdict_on cs e) rows manner audit
+IsLastAudit cs (x.LastIndexWhere e) rows manner audit = IsRun high_flag (verdict_on cs e) rows manner audit
+IsLastAudit cs (x.SegmentLength e from) rows manner audit = IsRun low_flag (denied cs e) (drop (place from) rows) manner audit
+IsLastAudit cs (x.Span e) rows manner audit = IsRun low_flag (denied cs e) rows manner audit
+IsLastAudit cs (x.Partition e) rows manner audit = IsRun no_flag (verdict_on cs e) rows manner audit
+IsLastAudit cs _ rows manner audit = audit ≡ None
 
 -- it stopped by the fault, or for want of memory
 abbrev pub StopsBy : Option FaultAt → StepStop → Type 0

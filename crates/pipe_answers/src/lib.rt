@@ -32,4 +32,4 @@ mod tests;
 mod texts;
 
 pub use audits::{StageAudit, write_audits};
-pub use last::{is_built_last, run_last};
+pub use last::{is_built_last, run_last, run_last_alone};

@@ -6,8 +6,10 @@ ghost use Rattle.std.specs.List.{count_by, fold, reduce};
 ghost use Rattle.par_laws.specs.Guarded.{made_map};
 ghost use Rattle.par_laws.specs.Wrapping.{wrapped_product, wrapped_sum};
 ghost use Rattle.par_task.specs.Marking.{no_flag, no_test};
+ghost use Rattle.par_task.specs.Manners.{alone};
+ghost use Rattle.par_pool.specs.Plans.{planned};
 ghost use Rattle.par_jobs.specs.Faults.{fault_of};
-ghost use Rattle.par_jobs.specs.Runs.{IsRunAlone, untested};
+ghost use Rattle.par_jobs.specs.Runs.{IsRunOver, untested};
 ghost use Rattle.pipe_checks.specs.Kinds.{fits};
 ghost use Rattle.pipe_checks.specs.declared.uses.Want.TheVariants.{Number as NumberWanted, Shown as ShownWanted, Truth as TruthWanted};
 ghost use Rattle.pipe_expr.specs.Grammar.{view};
@@ -19,18 +21,20 @@ ghost use Rattle.pipe_answers.specs.Lasts.{Gives, StopsBy, numbers, separated_by
 ghost use Rattle.pipe_answers.specs.Makes.{made_fault, made_values};
 ghost use Rattle.pipe_answers.specs.Texts as texts;
 
-use crate::made::{Present, fold_made};
+use crate::made::{Present, fold_made, fold_made_alone};
 use crate::rows::with_table;
 use crate::texts;
-use par_access::count_alone;
 use par_edge::Gate;
 use par_laws::{Greatest, Least, Product, Sum, Tried};
+use par_pool::Plan;
 use par_rows::{Row, Schema};
 use par_task::Audit;
 use pipe_eval::{Condition, Number};
 use pipe_expr::Expr;
 use pipe_stages::{CopySplitter, StepStop};
 use std::alloc::Global;
+use std::sync::Wait;
+use std::thread::Threads;
 
 /// The text of an answer, and the audit of its run if it has one.
 pub(crate) type Told = (Vec<u8>, Option<Audit>);
@@ -52,7 +56,31 @@ pub(crate) fn size(alloc: Global, rows: &[&Row]) -> Result<Told, StepStop>
 }
 
 /// How many rows pass.
-pub(crate) fn count<G: Gate>(
+pub(crate) fn count<G: Gate + Sync, T: Threads + Wait + Sync>(
+    rt: &T,
+    alloc: Global,
+    e: &Expr,
+    schema: &Schema,
+    rows: &[&Row],
+    plan: &Plan<'_, G>,
+) -> Result<Told, StepStop>
+    requires kind { fits schema.now.columns.items TruthWanted (view e.now) ≡ true }
+    requires small { length rows.now ≤ 4194304 }
+    requires level { (1 ≤ plan.now.level) × (plan.now.level ≤ 64) }
+    requires workers { (1 ≤ plan.now.workers) × (plan.now.workers ≤ 64) }
+    ensures { Gives (fault_of no_flag (map (verdict_on schema.now.columns.items (view e.now)) (pointed rows.now))) (λ text. text ≡ texts.count_text (count_by (holds schema.now.columns.items (view e.now)) (pointed rows.now))) (IsRun no_flag (verdict_on schema.now.columns.items (view e.now)) (pointed rows.now) (planned plan.now.workers plan.now.level)) result }
+{
+    let test = Condition::bind(alloc, e, schema)?;
+    let source = CopySplitter::new(rows);
+    let (tried, audit) = par_access::count(rt, alloc, source, &test, plan)?;
+    match tried {
+        Tried::Got(count) => Ok((texts::count_alone(alloc, u64::from(count))?, Some(audit))),
+        Tried::Fault(fault) => Err(StepStop::Fault(fault)),
+    }
+}
+
+/// `count` on the caller's thread alone. It takes neither threads nor waits.
+pub(crate) fn count_alone<G: Gate>(
     alloc: Global,
     e: &Expr,
     schema: &Schema,
@@ -63,19 +91,39 @@ pub(crate) fn count<G: Gate>(
     requires kind { fits schema.now.columns.items TruthWanted (view e.now) ≡ true }
     requires small { length rows.now ≤ 4194304 }
     requires level { (1 ≤ level) × (level ≤ 64) }
-    ensures { Gives (fault_of no_flag (map (verdict_on schema.now.columns.items (view e.now)) (pointed rows.now))) (λ text. text ≡ texts.count_text (count_by (holds schema.now.columns.items (view e.now)) (pointed rows.now))) (IsRun no_flag (verdict_on schema.now.columns.items (view e.now)) (pointed rows.now) level) result }
+    ensures { Gives (fault_of no_flag (map (verdict_on schema.now.columns.items (view e.now)) (pointed rows.now))) (λ text. text ≡ texts.count_text (count_by (holds schema.now.columns.items (view e.now)) (pointed rows.now))) (IsRun no_flag (verdict_on schema.now.columns.items (view e.now)) (pointed rows.now) (alone level)) result }
 {
     let test = Condition::bind(alloc, e, schema)?;
     let source = CopySplitter::new(rows);
-    let (tried, audit) = count_alone(alloc, source, &test, level, gate)?;
+    let (tried, audit) = par_access::count_alone(alloc, source, &test, level, gate)?;
     match tried {
-        Tried::Got(count) => Ok((texts::count(alloc, u64::from(count))?, Some(audit))),
+        Tried::Got(count) => Ok((texts::count_alone(alloc, u64::from(count))?, Some(audit))),
         Tried::Fault(fault) => Err(StepStop::Fault(fault)),
     }
 }
 
 /// The sum of the rows' numbers. It wraps at the ends of 64 bits, and of no row it is 0.
-pub(crate) fn sum<G: Gate>(
+pub(crate) fn sum<G: Gate + Sync, T: Threads + Wait + Sync>(
+    rt: &T,
+    alloc: Global,
+    e: &Expr,
+    schema: &Schema,
+    rows: &[&Row],
+    plan: &Plan<'_, G>,
+) -> Result<Told, StepStop>
+    requires kind { fits schema.now.columns.items NumberWanted (view e.now) ≡ true }
+    requires small { length rows.now ≤ 4194304 }
+    requires level { (1 ≤ plan.now.level) × (plan.now.level ≤ 64) }
+    requires workers { (1 ≤ plan.now.workers) × (plan.now.workers ≤ 64) }
+    ensures { Gives (made_fault (map (number_made schema.now.columns.items (view e.now)) (pointed rows.now))) (λ text. text ≡ texts.number_text (fold wrapped_sum (pos 0) (numbers schema.now.columns.items (view e.now) (pointed rows.now)))) (IsRun no_test untested (pointed rows.now) (planned plan.now.workers plan.now.level)) result }
+{
+    let number = Number::bind(alloc, e, schema)?;
+    let (sum, audit) = fold_made(rt, alloc, &Sum, &number, rows, plan)?;
+    Ok((texts::number(alloc, sum)?, Some(audit)))
+}
+
+/// `sum` on the caller's thread alone. It takes neither threads nor waits.
+pub(crate) fn sum_alone<G: Gate>(
     alloc: Global,
     e: &Expr,
     schema: &Schema,
@@ -86,15 +134,35 @@ pub(crate) fn sum<G: Gate>(
     requires kind { fits schema.now.columns.items NumberWanted (view e.now) ≡ true }
     requires small { length rows.now ≤ 4194304 }
     requires level { (1 ≤ level) × (level ≤ 64) }
-    ensures { Gives (made_fault (map (number_made schema.now.columns.items (view e.now)) (pointed rows.now))) (λ text. text ≡ texts.number_text (fold wrapped_sum (pos 0) (numbers schema.now.columns.items (view e.now) (pointed rows.now)))) (IsRun no_test untested (pointed rows.now) level) result }
+    ensures { Gives (made_fault (map (number_made schema.now.columns.items (view e.now)) (pointed rows.now))) (λ text. text ≡ texts.number_text (fold wrapped_sum (pos 0) (numbers schema.now.columns.items (view e.now) (pointed rows.now)))) (IsRun no_test untested (pointed rows.now) (alone level)) result }
 {
     let number = Number::bind(alloc, e, schema)?;
-    let (sum, audit) = fold_made(alloc, &Sum, &number, rows, level, gate)?;
+    let (sum, audit) = fold_made_alone(alloc, &Sum, &number, rows, level, gate)?;
     Ok((texts::number(alloc, sum)?, Some(audit)))
 }
 
 /// The product of the rows' numbers. It wraps at the ends of 64 bits, and of no row it is 1.
-pub(crate) fn product<G: Gate>(
+pub(crate) fn product<G: Gate + Sync, T: Threads + Wait + Sync>(
+    rt: &T,
+    alloc: Global,
+    e: &Expr,
+    schema: &Schema,
+    rows: &[&Row],
+    plan: &Plan<'_, G>,
+) -> Result<Told, StepStop>
+    requires kind { fits schema.now.columns.items NumberWanted (view e.now) ≡ true }
+    requires small { length rows.now ≤ 4194304 }
+    requires level { (1 ≤ plan.now.level) × (plan.now.level ≤ 64) }
+    requires workers { (1 ≤ plan.now.workers) × (plan.now.workers ≤ 64) }
+    ensures { Gives (made_fault (map (number_made schema.now.columns.items (view e.now)) (pointed rows.now))) (λ text. text ≡ texts.number_text (fold wrapped_product (pos 1) (numbers schema.now.columns.items (view e.now) (pointed rows.now)))) (IsRun no_test untested (pointed rows.now) (planned plan.now.workers plan.now.level)) result }
+{
+    let number = Number::bind(alloc, e, schema)?;
+    let (product, audit) = fold_made(rt, alloc, &Product, &number, rows, plan)?;
+    Ok((texts::number(alloc, product)?, Some(audit)))
+}
+
+/// `product` on the caller's thread alone. It takes neither threads nor waits.
+pub(crate) fn product_alone<G: Gate>(
     alloc: Global,
     e: &Expr,
     schema: &Schema,
@@ -105,15 +173,36 @@ pub(crate) fn product<G: Gate>(
     requires kind { fits schema.now.columns.items NumberWanted (view e.now) ≡ true }
     requires small { length rows.now ≤ 4194304 }
     requires level { (1 ≤ level) × (level ≤ 64) }
-    ensures { Gives (made_fault (map (number_made schema.now.columns.items (view e.now)) (pointed rows.now))) (λ text. text ≡ texts.number_text (fold wrapped_product (pos 1) (numbers schema.now.columns.items (view e.now) (pointed rows.now)))) (IsRun no_test untested (pointed rows.now) level) result }
+    ensures { Gives (made_fault (map (number_made schema.now.columns.items (view e.now)) (pointed rows.now))) (λ text. text ≡ texts.number_text (fold wrapped_product (pos 1) (numbers schema.now.columns.items (view e.now) (pointed rows.now)))) (IsRun no_test untested (pointed rows.now) (alone level)) result }
 {
     let number = Number::bind(alloc, e, schema)?;
-    let (product, audit) = fold_made(alloc, &Product, &number, rows, level, gate)?;
+    let (product, audit) = fold_made_alone(alloc, &Product, &number, rows, level, gate)?;
     Ok((texts::number(alloc, product)?, Some(audit)))
 }
 
 /// The least of the rows' numbers, or `none` of no row.
-pub(crate) fn min<G: Gate>(
+pub(crate) fn min<G: Gate + Sync, T: Threads + Wait + Sync>(
+    rt: &T,
+    alloc: Global,
+    e: &Expr,
+    schema: &Schema,
+    rows: &[&Row],
+    plan: &Plan<'_, G>,
+) -> Result<Told, StepStop>
+    requires kind { fits schema.now.columns.items NumberWanted (view e.now) ≡ true }
+    requires small { length rows.now ≤ 4194304 }
+    requires level { (1 ≤ plan.now.level) × (plan.now.level ≤ 64) }
+    requires workers { (1 ≤ plan.now.workers) × (plan.now.workers ≤ 64) }
+    ensures { Gives (made_fault (map (number_made schema.now.columns.items (view e.now)) (pointed rows.now))) (λ text. text ≡ texts.number_or_none (reduce int_min (numbers schema.now.columns.items (view e.now) (pointed rows.now)))) (IsRun no_test untested (pointed rows.now) (planned plan.now.workers plan.now.level)) result }
+{
+    let number = Number::bind(alloc, e, schema)?;
+    let present = Present { of: &number };
+    let (least, audit) = fold_made(rt, alloc, &Least, &present, rows, plan)?;
+    Ok((texts::number_or_none(alloc, least)?, Some(audit)))
+}
+
+/// `min` on the caller's thread alone. It takes neither threads nor waits.
+pub(crate) fn min_alone<G: Gate>(
     alloc: Global,
     e: &Expr,
     schema: &Schema,
@@ -124,16 +213,37 @@ pub(crate) fn min<G: Gate>(
     requires kind { fits schema.now.columns.items NumberWanted (view e.now) ≡ true }
     requires small { length rows.now ≤ 4194304 }
     requires level { (1 ≤ level) × (level ≤ 64) }
-    ensures { Gives (made_fault (map (number_made schema.now.columns.items (view e.now)) (pointed rows.now))) (λ text. text ≡ texts.number_or_none (reduce int_min (numbers schema.now.columns.items (view e.now) (pointed rows.now)))) (IsRun no_test untested (pointed rows.now) level) result }
+    ensures { Gives (made_fault (map (number_made schema.now.columns.items (view e.now)) (pointed rows.now))) (λ text. text ≡ texts.number_or_none (reduce int_min (numbers schema.now.columns.items (view e.now) (pointed rows.now)))) (IsRun no_test untested (pointed rows.now) (alone level)) result }
 {
     let number = Number::bind(alloc, e, schema)?;
     let present = Present { of: &number };
-    let (least, audit) = fold_made(alloc, &Least, &present, rows, level, gate)?;
+    let (least, audit) = fold_made_alone(alloc, &Least, &present, rows, level, gate)?;
     Ok((texts::number_or_none(alloc, least)?, Some(audit)))
 }
 
 /// The greatest of the rows' numbers, or `none` of no row.
-pub(crate) fn max<G: Gate>(
+pub(crate) fn max<G: Gate + Sync, T: Threads + Wait + Sync>(
+    rt: &T,
+    alloc: Global,
+    e: &Expr,
+    schema: &Schema,
+    rows: &[&Row],
+    plan: &Plan<'_, G>,
+) -> Result<Told, StepStop>
+    requires kind { fits schema.now.columns.items NumberWanted (view e.now) ≡ true }
+    requires small { length rows.now ≤ 4194304 }
+    requires level { (1 ≤ plan.now.level) × (plan.now.level ≤ 64) }
+    requires workers { (1 ≤ plan.now.workers) × (plan.now.workers ≤ 64) }
+    ensures { Gives (made_fault (map (number_made schema.now.columns.items (view e.now)) (pointed rows.now))) (λ text. text ≡ texts.number_or_none (reduce int_max (numbers schema.now.columns.items (view e.now) (pointed rows.now)))) (IsRun no_test untested (pointed rows.now) (planned plan.now.workers plan.now.level)) result }
+{
+    let number = Number::bind(alloc, e, schema)?;
+    let present = Present { of: &number };
+    let (greatest, audit) = fold_made(rt, alloc, &Greatest, &present, rows, plan)?;
+    Ok((texts::number_or_none(alloc, greatest)?, Some(audit)))
+}
+
+/// `max` on the caller's thread alone. It takes neither threads nor waits.
+pub(crate) fn max_alone<G: Gate>(
     alloc: Global,
     e: &Expr,
     schema: &Schema,
@@ -144,10 +254,10 @@ pub(crate) fn max<G: Gate>(
     requires kind { fits schema.now.columns.items NumberWanted (view e.now) ≡ true }
     requires small { length rows.now ≤ 4194304 }
     requires level { (1 ≤ level) × (level ≤ 64) }
-    ensures { Gives (made_fault (map (number_made schema.now.columns.items (view e.now)) (pointed rows.now))) (λ text. text ≡ texts.number_or_none (reduce int_max (numbers schema.now.columns.items (view e.now) (pointed rows.now)))) (IsRun no_test untested (pointed rows.now) level) result }
+    ensures { Gives (made_fault (map (number_made schema.now.columns.items (view e.now)) (pointed rows.now))) (λ text. text ≡ texts.number_or_none (reduce int_max (numbers schema.now.columns.items (view e.now) (pointed rows.now)))) (IsRun no_test untested (pointed rows.now) (alone level)) result }
 {
     let number = Number::bind(alloc, e, schema)?;
     let present = Present { of: &number };
-    let (greatest, audit) = fold_made(alloc, &Greatest, &present, rows, level, gate)?;
+    let (greatest, audit) = fold_made_alone(alloc, &Greatest, &present, rows, level, gate)?;
     Ok((texts::number_or_none(alloc, greatest)?, Some(audit)))
 }

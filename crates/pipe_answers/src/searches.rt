@@ -6,6 +6,8 @@ ghost use Rattle.par_lists.specs.Cuts.{place, segment_length};
 ghost use Rattle.par_lists.specs.Searches.{index_where, last_index_where};
 ghost use Rattle.par_rows.specs.declared.row.Row.{Row as OneRow};
 ghost use Rattle.par_task.specs.Marking.{abort_flag, high_flag, low_flag};
+ghost use Rattle.par_task.specs.Manners.{alone};
+ghost use Rattle.par_pool.specs.Plans.{planned};
 ghost use Rattle.par_jobs.specs.Faults.{fault_at, fault_of};
 ghost use Rattle.pipe_checks.specs.Kinds.{fits};
 ghost use Rattle.pipe_checks.specs.declared.uses.Want.TheVariants.{Truth as TruthWanted};
@@ -20,17 +22,16 @@ ghost use Rattle.pipe_answers.specs.Texts as texts;
 use crate::numbers::Told;
 use crate::rows::found;
 use crate::texts;
-use par_access::{
-    exists_alone, find_alone, forall_alone, index_where_alone, last_index_where_alone,
-    segment_length_alone,
-};
 use par_edge::Gate;
 use par_laws::Tried;
+use par_pool::Plan;
 use par_rows::{Row, Schema};
 use pipe_eval::Condition;
 use pipe_expr::Expr;
 use pipe_stages::{CopySplitter, StepStop};
 use std::alloc::Global;
+use std::sync::Wait;
+use std::thread::Threads;
 
 // The row at a place, if there is a place.
 fn row_at<'a>(rows: &[&'a Row], place: Option<u32>) -> Option<&'a Row>
@@ -43,7 +44,34 @@ fn row_at<'a>(rows: &[&'a Row], place: Option<u32>) -> Option<&'a Row>
 }
 
 /// Some row that passes, or `none`.
-pub(crate) fn find<G: Gate>(
+pub(crate) fn find<G: Gate + Sync, T: Threads + Wait + Sync>(
+    rt: &T,
+    alloc: Global,
+    e: &Expr,
+    schema: &Schema,
+    rows: &[&Row],
+    plan: &Plan<'_, G>,
+) -> Result<Told, StepStop>
+    requires kind { fits schema.now.columns.items TruthWanted (view e.now) ≡ true }
+    requires small { length rows.now ≤ 4194304 }
+    requires level { (1 ≤ plan.now.level) × (plan.now.level ≤ 64) }
+    requires workers { (1 ≤ plan.now.workers) × (plan.now.workers ≤ 64) }
+    ensures { Gives (fault_of abort_flag (map (verdict_on schema.now.columns.items (view e.now)) (pointed rows.now))) (λ text. (row : Option OneRow) × IsFoundRow (holds schema.now.columns.items (view e.now)) (pointed rows.now) row × (text ≡ texts.found_text schema.now.columns.items row)) (IsRun abort_flag (verdict_on schema.now.columns.items (view e.now)) (pointed rows.now) (planned plan.now.workers plan.now.level)) result }
+{
+    let test = Condition::bind(alloc, e, schema)?;
+    let source = CopySplitter::new(rows);
+    let (tried, audit) = par_access::find(rt, alloc, source, &test, plan)?;
+    match tried {
+        Tried::Got(place) => {
+            let row = row_at(rows, place);
+            Ok((found(alloc, &schema.columns, row)?, Some(audit)))
+        }
+        Tried::Fault(fault) => Err(StepStop::Fault(fault)),
+    }
+}
+
+/// `find` on the caller's thread alone. It takes neither threads nor waits.
+pub(crate) fn find_alone<G: Gate>(
     alloc: Global,
     e: &Expr,
     schema: &Schema,
@@ -54,11 +82,11 @@ pub(crate) fn find<G: Gate>(
     requires kind { fits schema.now.columns.items TruthWanted (view e.now) ≡ true }
     requires small { length rows.now ≤ 4194304 }
     requires level { (1 ≤ level) × (level ≤ 64) }
-    ensures { Gives (fault_of abort_flag (map (verdict_on schema.now.columns.items (view e.now)) (pointed rows.now))) (λ text. (row : Option OneRow) × IsFoundRow (holds schema.now.columns.items (view e.now)) (pointed rows.now) row × (text ≡ texts.found_text schema.now.columns.items row)) (IsRun abort_flag (verdict_on schema.now.columns.items (view e.now)) (pointed rows.now) level) result }
+    ensures { Gives (fault_of abort_flag (map (verdict_on schema.now.columns.items (view e.now)) (pointed rows.now))) (λ text. (row : Option OneRow) × IsFoundRow (holds schema.now.columns.items (view e.now)) (pointed rows.now) row × (text ≡ texts.found_text schema.now.columns.items row)) (IsRun abort_flag (verdict_on schema.now.columns.items (view e.now)) (pointed rows.now) (alone level)) result }
 {
     let test = Condition::bind(alloc, e, schema)?;
     let source = CopySplitter::new(rows);
-    let (tried, audit) = find_alone(alloc, source, &test, level, gate)?;
+    let (tried, audit) = par_access::find_alone(alloc, source, &test, level, gate)?;
     match tried {
         Tried::Got(place) => {
             let row = row_at(rows, place);
@@ -69,7 +97,31 @@ pub(crate) fn find<G: Gate>(
 }
 
 /// Whether a row passes.
-pub(crate) fn exists<G: Gate>(
+pub(crate) fn exists<G: Gate + Sync, T: Threads + Wait + Sync>(
+    rt: &T,
+    alloc: Global,
+    e: &Expr,
+    schema: &Schema,
+    rows: &[&Row],
+    plan: &Plan<'_, G>,
+) -> Result<Told, StepStop>
+    requires kind { fits schema.now.columns.items TruthWanted (view e.now) ≡ true }
+    requires small { length rows.now ≤ 4194304 }
+    requires level { (1 ≤ plan.now.level) × (plan.now.level ≤ 64) }
+    requires workers { (1 ≤ plan.now.workers) × (plan.now.workers ≤ 64) }
+    ensures { Gives (fault_of abort_flag (map (verdict_on schema.now.columns.items (view e.now)) (pointed rows.now))) (λ text. text ≡ texts.truth_text (list_any (holds schema.now.columns.items (view e.now)) (pointed rows.now))) (IsRun abort_flag (verdict_on schema.now.columns.items (view e.now)) (pointed rows.now) (planned plan.now.workers plan.now.level)) result }
+{
+    let test = Condition::bind(alloc, e, schema)?;
+    let source = CopySplitter::new(rows);
+    let (tried, audit) = par_access::exists(rt, alloc, source, &test, plan)?;
+    match tried {
+        Tried::Got(passes) => Ok((texts::truth(alloc, passes)?, Some(audit))),
+        Tried::Fault(fault) => Err(StepStop::Fault(fault)),
+    }
+}
+
+/// `exists` on the caller's thread alone. It takes neither threads nor waits.
+pub(crate) fn exists_alone<G: Gate>(
     alloc: Global,
     e: &Expr,
     schema: &Schema,
@@ -80,11 +132,11 @@ pub(crate) fn exists<G: Gate>(
     requires kind { fits schema.now.columns.items TruthWanted (view e.now) ≡ true }
     requires small { length rows.now ≤ 4194304 }
     requires level { (1 ≤ level) × (level ≤ 64) }
-    ensures { Gives (fault_of abort_flag (map (verdict_on schema.now.columns.items (view e.now)) (pointed rows.now))) (λ text. text ≡ texts.truth_text (list_any (holds schema.now.columns.items (view e.now)) (pointed rows.now))) (IsRun abort_flag (verdict_on schema.now.columns.items (view e.now)) (pointed rows.now) level) result }
+    ensures { Gives (fault_of abort_flag (map (verdict_on schema.now.columns.items (view e.now)) (pointed rows.now))) (λ text. text ≡ texts.truth_text (list_any (holds schema.now.columns.items (view e.now)) (pointed rows.now))) (IsRun abort_flag (verdict_on schema.now.columns.items (view e.now)) (pointed rows.now) (alone level)) result }
 {
     let test = Condition::bind(alloc, e, schema)?;
     let source = CopySplitter::new(rows);
-    let (tried, audit) = exists_alone(alloc, source, &test, level, gate)?;
+    let (tried, audit) = par_access::exists_alone(alloc, source, &test, level, gate)?;
     match tried {
         Tried::Got(passes) => Ok((texts::truth(alloc, passes)?, Some(audit))),
         Tried::Fault(fault) => Err(StepStop::Fault(fault)),
@@ -92,7 +144,31 @@ pub(crate) fn exists<G: Gate>(
 }
 
 /// Whether each row passes.
-pub(crate) fn forall<G: Gate>(
+pub(crate) fn forall<G: Gate + Sync, T: Threads + Wait + Sync>(
+    rt: &T,
+    alloc: Global,
+    e: &Expr,
+    schema: &Schema,
+    rows: &[&Row],
+    plan: &Plan<'_, G>,
+) -> Result<Told, StepStop>
+    requires kind { fits schema.now.columns.items TruthWanted (view e.now) ≡ true }
+    requires small { length rows.now ≤ 4194304 }
+    requires level { (1 ≤ plan.now.level) × (plan.now.level ≤ 64) }
+    requires workers { (1 ≤ plan.now.workers) × (plan.now.workers ≤ 64) }
+    ensures { Gives (fault_of abort_flag (map (denied schema.now.columns.items (view e.now)) (pointed rows.now))) (λ text. text ≡ texts.truth_text (list_all (holds schema.now.columns.items (view e.now)) (pointed rows.now))) (IsRun abort_flag (denied schema.now.columns.items (view e.now)) (pointed rows.now) (planned plan.now.workers plan.now.level)) result }
+{
+    let test = Condition::bind(alloc, e, schema)?;
+    let source = CopySplitter::new(rows);
+    let (tried, audit) = par_access::forall(rt, alloc, source, &test, plan)?;
+    match tried {
+        Tried::Got(pass) => Ok((texts::truth(alloc, pass)?, Some(audit))),
+        Tried::Fault(fault) => Err(StepStop::Fault(fault)),
+    }
+}
+
+/// `forall` on the caller's thread alone. It takes neither threads nor waits.
+pub(crate) fn forall_alone<G: Gate>(
     alloc: Global,
     e: &Expr,
     schema: &Schema,
@@ -103,11 +179,11 @@ pub(crate) fn forall<G: Gate>(
     requires kind { fits schema.now.columns.items TruthWanted (view e.now) ≡ true }
     requires small { length rows.now ≤ 4194304 }
     requires level { (1 ≤ level) × (level ≤ 64) }
-    ensures { Gives (fault_of abort_flag (map (denied schema.now.columns.items (view e.now)) (pointed rows.now))) (λ text. text ≡ texts.truth_text (list_all (holds schema.now.columns.items (view e.now)) (pointed rows.now))) (IsRun abort_flag (denied schema.now.columns.items (view e.now)) (pointed rows.now) level) result }
+    ensures { Gives (fault_of abort_flag (map (denied schema.now.columns.items (view e.now)) (pointed rows.now))) (λ text. text ≡ texts.truth_text (list_all (holds schema.now.columns.items (view e.now)) (pointed rows.now))) (IsRun abort_flag (denied schema.now.columns.items (view e.now)) (pointed rows.now) (alone level)) result }
 {
     let test = Condition::bind(alloc, e, schema)?;
     let source = CopySplitter::new(rows);
-    let (tried, audit) = forall_alone(alloc, source, &test, level, gate)?;
+    let (tried, audit) = par_access::forall_alone(alloc, source, &test, level, gate)?;
     match tried {
         Tried::Got(pass) => Ok((texts::truth(alloc, pass)?, Some(audit))),
         Tried::Fault(fault) => Err(StepStop::Fault(fault)),
@@ -115,7 +191,31 @@ pub(crate) fn forall<G: Gate>(
 }
 
 /// The index of the first row that passes, or -1.
-pub(crate) fn index_where<G: Gate>(
+pub(crate) fn index_where<G: Gate + Sync, T: Threads + Wait + Sync>(
+    rt: &T,
+    alloc: Global,
+    e: &Expr,
+    schema: &Schema,
+    rows: &[&Row],
+    plan: &Plan<'_, G>,
+) -> Result<Told, StepStop>
+    requires kind { fits schema.now.columns.items TruthWanted (view e.now) ≡ true }
+    requires small { length rows.now ≤ 4194304 }
+    requires level { (1 ≤ plan.now.level) × (plan.now.level ≤ 64) }
+    requires workers { (1 ≤ plan.now.workers) × (plan.now.workers ≤ 64) }
+    ensures { Gives (fault_of low_flag (map (verdict_on schema.now.columns.items (view e.now)) (pointed rows.now))) (λ text. text ≡ texts.number_text (index_where (holds schema.now.columns.items (view e.now)) (pointed rows.now))) (IsRun low_flag (verdict_on schema.now.columns.items (view e.now)) (pointed rows.now) (planned plan.now.workers plan.now.level)) result }
+{
+    let test = Condition::bind(alloc, e, schema)?;
+    let source = CopySplitter::new(rows);
+    let (tried, audit) = par_access::index_where(rt, alloc, source, &test, plan)?;
+    match tried {
+        Tried::Got(index) => Ok((texts::number(alloc, index)?, Some(audit))),
+        Tried::Fault(fault) => Err(StepStop::Fault(fault)),
+    }
+}
+
+/// `index_where` on the caller's thread alone. It takes neither threads nor waits.
+pub(crate) fn index_where_alone<G: Gate>(
     alloc: Global,
     e: &Expr,
     schema: &Schema,
@@ -126,11 +226,11 @@ pub(crate) fn index_where<G: Gate>(
     requires kind { fits schema.now.columns.items TruthWanted (view e.now) ≡ true }
     requires small { length rows.now ≤ 4194304 }
     requires level { (1 ≤ level) × (level ≤ 64) }
-    ensures { Gives (fault_of low_flag (map (verdict_on schema.now.columns.items (view e.now)) (pointed rows.now))) (λ text. text ≡ texts.number_text (index_where (holds schema.now.columns.items (view e.now)) (pointed rows.now))) (IsRun low_flag (verdict_on schema.now.columns.items (view e.now)) (pointed rows.now) level) result }
+    ensures { Gives (fault_of low_flag (map (verdict_on schema.now.columns.items (view e.now)) (pointed rows.now))) (λ text. text ≡ texts.number_text (index_where (holds schema.now.columns.items (view e.now)) (pointed rows.now))) (IsRun low_flag (verdict_on schema.now.columns.items (view e.now)) (pointed rows.now) (alone level)) result }
 {
     let test = Condition::bind(alloc, e, schema)?;
     let source = CopySplitter::new(rows);
-    let (tried, audit) = index_where_alone(alloc, source, &test, level, gate)?;
+    let (tried, audit) = par_access::index_where_alone(alloc, source, &test, level, gate)?;
     match tried {
         Tried::Got(index) => Ok((texts::number(alloc, index)?, Some(audit))),
         Tried::Fault(fault) => Err(StepStop::Fault(fault)),
@@ -138,7 +238,31 @@ pub(crate) fn index_where<G: Gate>(
 }
 
 /// The index of the last row that passes, or -1.
-pub(crate) fn last_index_where<G: Gate>(
+pub(crate) fn last_index_where<G: Gate + Sync, T: Threads + Wait + Sync>(
+    rt: &T,
+    alloc: Global,
+    e: &Expr,
+    schema: &Schema,
+    rows: &[&Row],
+    plan: &Plan<'_, G>,
+) -> Result<Told, StepStop>
+    requires kind { fits schema.now.columns.items TruthWanted (view e.now) ≡ true }
+    requires small { length rows.now ≤ 4194304 }
+    requires level { (1 ≤ plan.now.level) × (plan.now.level ≤ 64) }
+    requires workers { (1 ≤ plan.now.workers) × (plan.now.workers ≤ 64) }
+    ensures { Gives (fault_of high_flag (map (verdict_on schema.now.columns.items (view e.now)) (pointed rows.now))) (λ text. text ≡ texts.number_text (last_index_where (holds schema.now.columns.items (view e.now)) (pointed rows.now))) (IsRun high_flag (verdict_on schema.now.columns.items (view e.now)) (pointed rows.now) (planned plan.now.workers plan.now.level)) result }
+{
+    let test = Condition::bind(alloc, e, schema)?;
+    let source = CopySplitter::new(rows);
+    let (tried, audit) = par_access::last_index_where(rt, alloc, source, &test, plan)?;
+    match tried {
+        Tried::Got(index) => Ok((texts::number(alloc, index)?, Some(audit))),
+        Tried::Fault(fault) => Err(StepStop::Fault(fault)),
+    }
+}
+
+/// `last_index_where` on the caller's thread alone. It takes neither threads nor waits.
+pub(crate) fn last_index_where_alone<G: Gate>(
     alloc: Global,
     e: &Expr,
     schema: &Schema,
@@ -149,11 +273,11 @@ pub(crate) fn last_index_where<G: Gate>(
     requires kind { fits schema.now.columns.items TruthWanted (view e.now) ≡ true }
     requires small { length rows.now ≤ 4194304 }
     requires level { (1 ≤ level) × (level ≤ 64) }
-    ensures { Gives (fault_of high_flag (map (verdict_on schema.now.columns.items (view e.now)) (pointed rows.now))) (λ text. text ≡ texts.number_text (last_index_where (holds schema.now.columns.items (view e.now)) (pointed rows.now))) (IsRun high_flag (verdict_on schema.now.columns.items (view e.now)) (pointed rows.now) level) result }
+    ensures { Gives (fault_of high_flag (map (verdict_on schema.now.columns.items (view e.now)) (pointed rows.now))) (λ text. text ≡ texts.number_text (last_index_where (holds schema.now.columns.items (view e.now)) (pointed rows.now))) (IsRun high_flag (verdict_on schema.now.columns.items (view e.now)) (pointed rows.now) (alone level)) result }
 {
     let test = Condition::bind(alloc, e, schema)?;
     let source = CopySplitter::new(rows);
-    let (tried, audit) = last_index_where_alone(alloc, source, &test, level, gate)?;
+    let (tried, audit) = par_access::last_index_where_alone(alloc, source, &test, level, gate)?;
     match tried {
         Tried::Got(index) => Ok((texts::number(alloc, index)?, Some(audit))),
         Tried::Fault(fault) => Err(StepStop::Fault(fault)),
@@ -161,7 +285,32 @@ pub(crate) fn last_index_where<G: Gate>(
 }
 
 /// How many rows in a row pass, from an index on. A negative index counts as 0.
-pub(crate) fn segment_length<G: Gate>(
+pub(crate) fn segment_length<G: Gate + Sync, T: Threads + Wait + Sync>(
+    rt: &T,
+    alloc: Global,
+    e: &Expr,
+    from: i64,
+    schema: &Schema,
+    rows: &[&Row],
+    plan: &Plan<'_, G>,
+) -> Result<Told, StepStop>
+    requires kind { fits schema.now.columns.items TruthWanted (view e.now) ≡ true }
+    requires small { length rows.now ≤ 4194304 }
+    requires level { (1 ≤ plan.now.level) × (plan.now.level ≤ 64) }
+    requires workers { (1 ≤ plan.now.workers) × (plan.now.workers ≤ 64) }
+    ensures { Gives (fault_at (map (verdict_on schema.now.columns.items (view e.now)) (pointed rows.now)) (place from + segment_length (holds schema.now.columns.items (view e.now)) (place from) (pointed rows.now))) (λ text. text ≡ texts.count_text (segment_length (holds schema.now.columns.items (view e.now)) (place from) (pointed rows.now))) (IsRun low_flag (denied schema.now.columns.items (view e.now)) (drop (place from) (pointed rows.now)) (planned plan.now.workers plan.now.level)) result }
+{
+    let test = Condition::bind(alloc, e, schema)?;
+    let source = CopySplitter::new(rows);
+    let (tried, audit) = par_access::segment_length(rt, alloc, source, &test, from, plan)?;
+    match tried {
+        Tried::Got(length) => Ok((texts::count_alone(alloc, u64::from(length))?, Some(audit))),
+        Tried::Fault(fault) => Err(StepStop::Fault(fault)),
+    }
+}
+
+/// `segment_length` on the caller's thread alone. It takes neither threads nor waits.
+pub(crate) fn segment_length_alone<G: Gate>(
     alloc: Global,
     e: &Expr,
     from: i64,
@@ -173,13 +322,13 @@ pub(crate) fn segment_length<G: Gate>(
     requires kind { fits schema.now.columns.items TruthWanted (view e.now) ≡ true }
     requires small { length rows.now ≤ 4194304 }
     requires level { (1 ≤ level) × (level ≤ 64) }
-    ensures { Gives (fault_at (map (verdict_on schema.now.columns.items (view e.now)) (pointed rows.now)) (place from + segment_length (holds schema.now.columns.items (view e.now)) (place from) (pointed rows.now))) (λ text. text ≡ texts.count_text (segment_length (holds schema.now.columns.items (view e.now)) (place from) (pointed rows.now))) (IsRun low_flag (denied schema.now.columns.items (view e.now)) (drop (place from) (pointed rows.now)) level) result }
+    ensures { Gives (fault_at (map (verdict_on schema.now.columns.items (view e.now)) (pointed rows.now)) (place from + segment_length (holds schema.now.columns.items (view e.now)) (place from) (pointed rows.now))) (λ text. text ≡ texts.count_text (segment_length (holds schema.now.columns.items (view e.now)) (place from) (pointed rows.now))) (IsRun low_flag (denied schema.now.columns.items (view e.now)) (drop (place from) (pointed rows.now)) (alone level)) result }
 {
     let test = Condition::bind(alloc, e, schema)?;
     let source = CopySplitter::new(rows);
-    let (tried, audit) = segment_length_alone(alloc, source, &test, from, level, gate)?;
+    let (tried, audit) = par_access::segment_length_alone(alloc, source, &test, from, level, gate)?;
     match tried {
-        Tried::Got(length) => Ok((texts::count(alloc, u64::from(length))?, Some(audit))),
+        Tried::Got(length) => Ok((texts::count_alone(alloc, u64::from(length))?, Some(audit))),
         Tried::Fault(fault) => Err(StepStop::Fault(fault)),
     }
 }

@@ -2,6 +2,8 @@
 
 ghost use Rattle.std.specs.Prelude.{◌≡◌, ◌≤◌, [], true, length, map, encode_utf8_all, unwrap_or, IfOk};
 ghost use Rattle.par_task.specs.Marking.{no_test};
+ghost use Rattle.par_task.specs.Manners.{alone};
+ghost use Rattle.par_pool.specs.Plans.{planned};
 ghost use Rattle.par_jobs.specs.Runs.{untested};
 ghost use Rattle.pipe_checks.specs.Kinds.{fits};
 ghost use Rattle.pipe_checks.specs.declared.uses.Want.TheVariants.{Shown as ShownWanted};
@@ -13,16 +15,19 @@ ghost use Rattle.pipe_answers.specs.Lasts.{Gives, separated_by};
 ghost use Rattle.pipe_answers.specs.Makes.{made_fault, made_values};
 ghost use Rattle.pipe_answers.specs.Texts as texts;
 
-use crate::made::{Present, fold_made};
+use crate::made::{Present, fold_made, fold_made_alone};
 use crate::numbers::Told;
 use crate::texts::word;
 use par_edge::Gate;
 use par_laws::{Joined, Keep, Memory, Words};
+use par_pool::Plan;
 use par_rows::{Row, Schema};
 use pipe_eval::Shown;
 use pipe_expr::Expr;
 use pipe_stages::StepStop;
 use std::alloc::Global;
+use std::sync::Wait;
+use std::thread::Threads;
 
 // The text that was joined, or the empty one of no row, with its line feed.
 fn joined_text(alloc: Global, joined: Option<Words>) -> Result<Vec<u8>, Memory>
@@ -35,7 +40,32 @@ fn joined_text(alloc: Global, joined: Option<Words>) -> Result<Vec<u8>, Memory>
 }
 
 /// The texts of the rows' values, with a separator between them.
-pub(crate) fn mk_string<G: Gate>(
+pub(crate) fn mk_string<G: Gate + Sync, T: Threads + Wait + Sync>(
+    rt: &T,
+    alloc: Global,
+    e: &Expr,
+    sep: &Words,
+    schema: &Schema,
+    rows: &[&Row],
+    plan: &Plan<'_, G>,
+) -> Result<Told, StepStop>
+    requires kind { fits schema.now.columns.items ShownWanted (view e.now) ≡ true }
+    requires small { length rows.now ≤ 4194304 }
+    requires level { (1 ≤ plan.now.level) × (plan.now.level ≤ 64) }
+    requires workers { (1 ≤ plan.now.workers) × (plan.now.workers ≤ 64) }
+    ensures { Gives (made_fault (map (text_made schema.now.columns.items (view e.now)) (pointed rows.now))) (λ text. text ≡ texts.line (encode_utf8_all (separated_by sep.now (made_values (map (text_made schema.now.columns.items (view e.now)) (pointed rows.now)))))) (IsRun no_test untested (pointed rows.now) (planned plan.now.workers plan.now.level)) result }
+{
+    let texts = Shown::bind(alloc, e, schema)?;
+    let present = Present { of: &texts };
+    let how = Joined {
+        sep: sep.copy(alloc)?,
+    };
+    let (joined, audit) = fold_made(rt, alloc, &how, &present, rows, plan)?;
+    Ok((joined_text(alloc, joined)?, Some(audit)))
+}
+
+/// `mk_string` on the caller's thread alone. It takes neither threads nor waits.
+pub(crate) fn mk_string_alone<G: Gate>(
     alloc: Global,
     e: &Expr,
     sep: &Words,
@@ -47,13 +77,13 @@ pub(crate) fn mk_string<G: Gate>(
     requires kind { fits schema.now.columns.items ShownWanted (view e.now) ≡ true }
     requires small { length rows.now ≤ 4194304 }
     requires level { (1 ≤ level) × (level ≤ 64) }
-    ensures { Gives (made_fault (map (text_made schema.now.columns.items (view e.now)) (pointed rows.now))) (λ text. text ≡ texts.line (encode_utf8_all (separated_by sep.now (made_values (map (text_made schema.now.columns.items (view e.now)) (pointed rows.now)))))) (IsRun no_test untested (pointed rows.now) level) result }
+    ensures { Gives (made_fault (map (text_made schema.now.columns.items (view e.now)) (pointed rows.now))) (λ text. text ≡ texts.line (encode_utf8_all (separated_by sep.now (made_values (map (text_made schema.now.columns.items (view e.now)) (pointed rows.now)))))) (IsRun no_test untested (pointed rows.now) (alone level)) result }
 {
     let texts = Shown::bind(alloc, e, schema)?;
     let present = Present { of: &texts };
     let how = Joined {
         sep: sep.copy(alloc)?,
     };
-    let (joined, audit) = fold_made(alloc, &how, &present, rows, level, gate)?;
+    let (joined, audit) = fold_made_alone(alloc, &how, &present, rows, level, gate)?;
     Ok((joined_text(alloc, joined)?, Some(audit)))
 }

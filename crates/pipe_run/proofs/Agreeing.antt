@@ -1,5 +1,6 @@
 -- Any two rulings of the same words and files agree: both are texts, or both are the same refusal.
 use Rattle.std.proofs.Common.{◌≡◌, ◌∙◌, sym, refl, ap, subst, ℕ, ◌+◌, ◌<◌, ◌≤◌, ℤ, Bool, Option, Some, None, Result, Ok, Err, arith, inl, inr, List, [], ◌∷◌, ◌++◌, length, map}
+use Rattle.par_task.specs.Manners.{Manner}
 use Rattle.par_edge.specs.Count.{Rose}
 use Rattle.par_edge.specs.Files.{File, IfTold}
 use Rattle.par_edge.specs.Shelves.{ShelfState}
@@ -144,11 +145,11 @@ rows_one (x.Csv columns) None files r s h k = absurd h
 
 -- ---- steps
 
-end_agreed : (level k : ℕ) (cs : List Column) (last : End) (rows : List Row) → IsAgreed (IsEnd level k cs last rows)
-end_agreed level k cs last rows (Ok t) (Ok u) h g = tt
-end_agreed level k cs last rows (Ok t) (Err o) h g = let e : None ≡ Some g.0 = sym h.0 ∙ g.1 in cc e
-end_agreed level k cs last rows (Err o) (Ok u) h g = let e : None ≡ Some h.0 = sym g.0 ∙ h.1 in cc e
-end_agreed level k cs last rows (Err o) (Err p) h g = let e : Some h.0 ≡ Some g.0 = sym h.1 ∙ g.1 in let same : h.0 ≡ g.0 = cc e in h.2 ∙ ap (λ (f : FaultAt). Fault k f.at f.kind) same ∙ sym g.2
+end_agreed : (manner : Manner) (k : ℕ) (cs : List Column) (last : End) (rows : List Row) → IsAgreed (IsEnd manner k cs last rows)
+end_agreed manner k cs last rows (Ok t) (Ok u) h g = tt
+end_agreed manner k cs last rows (Ok t) (Err o) h g = let e : None ≡ Some g.0 = sym h.0 ∙ g.1 in cc e
+end_agreed manner k cs last rows (Err o) (Ok u) h g = let e : None ≡ Some h.0 = sym g.0 ∙ h.1 in cc e
+end_agreed manner k cs last rows (Err o) (Err p) h g = let e : Some h.0 ≡ Some g.0 = sym h.1 ∙ g.1 in let same : h.0 ≡ g.0 = cc e in h.2 ∙ ap (λ (f : FaultAt). Fault k f.at f.kind) same ∙ sym g.2
 
 before_agree : (a b : List StageAudit) (r s : Result Told Outcome) → Agree r s → Agree (told_before a r) (told_before b s)
 before_agree a b (Ok t) (Ok u) h = tt
@@ -156,18 +157,18 @@ before_agree a b (Err o) (Err p) h = h
 before_agree a b (Ok t) (Err p) h = absurd h
 before_agree a b (Err o) (Ok u) h = absurd h
 
-run_agreed : (level k : ℕ) (cs : List Column) (ms : List Middle) (last : End) (rows : List Row) → IsAgreed (IsRun level k cs ms last rows)
+run_agreed : (manner : Manner) (k : ℕ) (cs : List Column) (ms : List Middle) (last : End) (rows : List Row) → IsAgreed (IsRun manner k cs ms last rows)
 unfolding IsRun
-run_agreed level k cs [] last rows r s h g = end_agreed level k cs last rows r s h g
-run_agreed level k cs (m ∷ ms) last rows r s h g =
+run_agreed manner k cs [] last rows r s h g = end_agreed manner k cs last rows r s h g
+run_agreed manner k cs (m ∷ ms) last rows r s h g =
     then_agreed _ _ (λ x y p q. p ∙ sym q)
-    (λ next x y p q. rw (p.4, q.4) (before_agree p.0 q.0 p.2 q.2 (run_agreed level (k + 1) (step_columns cs m) ms last next p.2 q.2 p.3 q.3)))
+    (λ next x y p q. rw (p.4, q.4) (before_agree p.0 q.0 p.2 q.2 (run_agreed manner (k + 1) (step_columns cs m) ms last next p.2 q.2 p.3 q.3)))
     r s h g
 
 -- ---- all of it
 
-told_agreed : (level : ℕ) (audit : Bool) (plan : Plan) (rows : List Row) → IsAgreed (IsToldText level audit plan rows)
-told_agreed level audit plan rows = then_answered _ _ (run_agreed level 2 _ plan.middles plan.last rows)
+told_agreed : (manner : Manner) (audit : Bool) (plan : Plan) (rows : List Row) → IsAgreed (IsToldText manner audit plan rows)
+told_agreed manner audit plan rows = then_answered _ _ (run_agreed manner 2 _ plan.middles plan.last rows)
 
 -- any two rulings of the same words and files agree
 pub agreed : TextLaws → (asked : Option Command) (files : List File) → IsAgreed (IsRuling asked files)
@@ -181,7 +182,7 @@ agreed laws (Some (Run pipe name workers level audit)) files r s h g =
     then_agreed _ _ (given_one laws text plan.origin name) (λ _.
     then_agreed _ _ (built_one laws text) (λ _.
     then_agreed _ _ (rows_one plan.origin name files) (λ rows.
-    told_agreed level audit plan rows))))) r s h g
+    told_agreed manner audit plan rows))))) r s h g
 
 status_agrees : (r s : Result (List ℕ) Outcome) → Agree r s → status_of_ruling r ≡ status_of_ruling s
 status_agrees (Ok x) (Ok y) h = refl

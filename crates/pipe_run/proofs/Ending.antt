@@ -7,7 +7,7 @@ use Rattle.par_edge.specs.Sinks.{SinkState, Appends, AppendsPart}
 use Rattle.pipe_words.specs.Commands.{Asked as Command, Run, Check, IsWithinLimits}
 use Rattle.pipe_run.specs.Rulings.{Answers}
 use Rattle.pipe_run.specs.Outcomes.{status_of}
-use Rattle.pipe_run.specs.Answers.{HasLevel, IsRuling}
+use Rattle.pipe_run.specs.Answers.{IsRunnable, IsRuling}
 use Rattle.pipe_run.specs.Endings.{Ends, EndsBy, IsWrittenAs}
 use Rattle.pipe_run.proofs.Deciding.{refused_lawful, told, told_const}
 use Rattle.pipe_run.specs.declared.outcome.Outcome.{Outcome}
@@ -74,7 +74,7 @@ pub refused_status : (o : Outcome) → (o ≡ Usage) ⊎ (o ≡ Memory) → (sta
 refused_status o (inl e) = inl (ap status_of e)
 refused_status o (inr e) = inr (ap status_of e)
 
--- the level of a lawful command
-pub has_level : (command : Command) (asked : Option Command) → Some command ≡ asked → IfSome asked IsWithinLimits → HasLevel command
-has_level (Run pipe table workers level audit) asked e h = let l = rw (← e) at h in (l.2, l.3)
-has_level (Check pipe) asked e h = tt
+-- the numbers of a lawful command
+pub runnable : (command : Command) (asked : Option Command) → Some command ≡ asked → IfSome asked IsWithinLimits → IsRunnable command
+runnable (Run pipe table workers level audit) asked e h = let l = rw (← e) at h in l
+runnable (Check pipe) asked e h = tt

@@ -2,6 +2,8 @@
 use Rattle.std.specs.Prelude.{◌≡◌, ◌≤◌, ℕ, Bool, List, Option, Some, None, Result, Ok, Err}
 use Rattle.par_edge.specs.Files.{File}
 use Rattle.par_rows.specs.declared.row.Row.{Row}
+use Rattle.par_task.specs.Manners.{Manner, IsManner}
+use Rattle.par_pool.specs.Plans.{planned}
 use Rattle.pipe_checks.specs.Columns.{source_columns}
 use Rattle.pipe_program.specs.Plans.{Plan}
 use Rattle.pipe_print.specs.Lines.{written_text}
@@ -12,17 +14,17 @@ use Rattle.pipe_run.specs.Sources.{IsBuilt, IsGiven, IsPipelineText, IsPlan, IsR
 use Rattle.pipe_run.specs.declared.outcome.Outcome.{Outcome}
 use Rattle.pipe_run.specs.declared.outcome.Outcome.TheVariants.{Usage}
 
--- what a run is asked for: the pipeline in the file of this name, over the data in another, cut by this level, and whether the audits are wanted
+-- what a run is asked for: the pipeline in the file of this name, over the data in another, in this manner, and whether the audits are wanted
 pub record Asked : Type 0 where
   pub pipe : List ℕ
   pub input : Option (List ℕ)
-  pub level : ℕ
+  pub manner : Manner
   pub audit : Bool
 
 -- the text of a run over the rows of its source: the steps and the answer, with the audits behind it where they are wanted
-abbrev pub IsToldText : ℕ → Bool → Plan → List Row → Result (List ℕ) Outcome → Type 0
-IsToldText level audit plan rows =
-    Then (IsRun level 2 (source_columns plan.origin) plan.middles plan.last rows) (λ told r. r ≡ Ok (whole_text audit told))
+abbrev pub IsToldText : Manner → Bool → Plan → List Row → Result (List ℕ) Outcome → Type 0
+IsToldText manner audit plan rows =
+    Then (IsRun manner 2 (source_columns plan.origin) plan.middles plan.last rows) (λ told r. r ≡ Ok (whole_text audit told))
 
 -- a run: the file, the plan, what is there to run, the source's rows and the text over them, each where all before it were answered
 abbrev pub IsAnswered : Asked → List File → Result (List ℕ) Outcome → Type 0
@@ -32,7 +34,7 @@ IsAnswered asked files =
     Then (IsGiven text plan.origin asked.input) (λ _.
     Then (IsBuilt text) (λ _.
     Then (IsRows plan.origin asked.input files) (λ rows.
-    IsToldText asked.level asked.audit plan rows)))))
+    IsToldText asked.manner asked.audit plan rows)))))
 
 -- a check: the file, the plan, and its canonical text
 abbrev pub IsChecked : List ℕ → List File → Result (List ℕ) Outcome → Type 0
@@ -44,10 +46,10 @@ IsChecked pipe files =
 -- what words ask for: those that aren't lawful are refused, whatever the files are
 abbrev pub IsRuling : Option Command → List File → Result (List ℕ) Outcome → Type 0
 IsRuling None files r = r ≡ Err Usage
-IsRuling (Some (Run pipe input workers level audit)) files r = IsAnswered (record { pipe = pipe; input = input; level = level; audit = audit }) files r
+IsRuling (Some (Run pipe input workers level audit)) files r = IsAnswered (record { pipe = pipe; input = input; manner = planned workers level; audit = audit }) files r
 IsRuling (Some (Check pipe)) files r = IsChecked pipe files r
 
--- a level that a run may have
-abbrev pub HasLevel : Command → Type 0
-HasLevel (Run pipe input workers level audit) = (1 ≤ level) × (level ≤ 64)
-HasLevel (Check pipe) = Unit {0}
+-- a run with a number of workers and a level that it may have
+abbrev pub IsRunnable : Command → Type 0
+IsRunnable (Run pipe input workers level audit) = IsManner (planned workers level)
+IsRunnable (Check pipe) = Unit {0}

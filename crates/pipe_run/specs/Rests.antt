@@ -1,5 +1,6 @@
 -- What is left of a run behind some of its steps.
 use Rattle.std.specs.Prelude.{◌≡◌, ◌+◌, ◌<◌, ◌≤◌, ◌-◌, ◌^◌, ◌++◌, ℕ, List, [], ◌∷◌, length, map, true, Result, Ok, Err, Option}
+use Rattle.par_task.specs.Manners.{Manner}
 use Rattle.par_rows.specs.declared.schema.Column.{Column}
 use Rattle.par_rows.specs.declared.row.Row.{Row}
 use Rattle.pipe_steps.specs.declared.step.Step.{Step}
@@ -25,8 +26,8 @@ abbrev pub middles_of : Rest → List Middle
 middles_of rest = map middle_view rest.steps.now
 
 -- a run of what is left, over these rows
-abbrev pub IsRunOf : ℕ → Rest → List Row → Result Told Outcome → Type 0
-IsRunOf level rest rows r = IsRun level rest.number (columns_of rest) (middles_of rest) (last_view rest.last.now) rows r
+abbrev pub IsRunOf : Manner → Rest → List Row → Result Told Outcome → Type 0
+IsRunOf manner rest rows r = IsRun manner rest.number (columns_of rest) (middles_of rest) (last_view rest.last.now) rows r
 
 -- nothing of what is left is wrong, all of it is built, and its numbers fit
 pub record IsReady (rest : Rest) : Type 0 where
@@ -35,10 +36,10 @@ pub record IsReady (rest : Rest) : Type 0 where
   pub few : rest.number + length rest.steps.now < 2 ^ 32
 
 -- what was reached: the answer with all audits; or rows with fewer steps left, where a run of these is the rest of the run
-abbrev pub Reaches : ℕ → Rest → List Row → List StageAudit → Reached → Type 0
-Reaches level rest rows audits (Answer text) = IsRunOf level rest rows (Ok (text.items, audits))
-Reaches level rest rows audits (Table made behind) = IsReady behind × (length made.items ≤ 4194304) × (length behind.steps.now < length rest.steps.now)
-    × ((r : Result Told Outcome) → IsRunOf level behind made.items r → IsRunOf level rest rows (told_before audits r))
+abbrev pub Reaches : Manner → Rest → List Row → List StageAudit → Reached → Type 0
+Reaches manner rest rows audits (Answer text) = IsRunOf manner rest rows (Ok (text.items, audits))
+Reaches manner rest rows audits (Table made behind) = IsReady behind × (length made.items ≤ 4194304) × (length behind.steps.now < length rest.steps.now)
+    × ((r : Result Told Outcome) → IsRunOf manner behind made.items r → IsRunOf manner rest rows (told_before audits r))
 
 -- what is left behind the first step, of these columns, where these steps are behind it
 pub record IsBehind (number : ℕ) (cs : List Column) (m : Middle) (steps : List Step) (last : Last) (rest : Rest) : Type 0 where

@@ -4,6 +4,7 @@ use Rattle.par_laws.specs.declared.tried.FaultAt.{FaultAt}
 use Rattle.par_lists.specs.Cuts.{place}
 use Rattle.par_rows.specs.declared.schema.Column.{Column}
 use Rattle.par_rows.specs.declared.row.Row.{Row}
+use Rattle.par_task.specs.Manners.{Manner}
 use Rattle.par_task.specs.declared.audit.Leaf.{Leaf}
 use Rattle.pipe_steps.specs.Said.{Middle, End}
 use Rattle.pipe_steps.specs.Said as x
@@ -88,11 +89,11 @@ IsTold k name n None audits = audits ≡ []
 IsTold k name n (Some leaves) audits = (a : StageAudit) × (audits ≡ a ∷ []) × (a.stage ≡ k) × (a.name.now ≡ name) × (a.items ≡ n) × (a.audit ≡ leaves)
 
 -- these are the audits of a step that gets these rows
-abbrev pub AreAuditsOf : ℕ → ℕ → List Column → Middle → List Row → List StageAudit → Type 0
-AreAuditsOf level k cs m rows audits = (leaves : Option (List Leaf)) × IsAuditOf cs m rows level leaves × IsTold k (step_name m) (step_items m rows) leaves audits
+abbrev pub AreAuditsOf : Manner → ℕ → List Column → Middle → List Row → List StageAudit → Type 0
+AreAuditsOf manner k cs m rows audits = (leaves : Option (List Leaf)) × IsAuditOf cs m rows manner leaves × IsTold k (step_name m) (step_items m rows) leaves audits
 
-abbrev pub AreLastAudits : ℕ → ℕ → List Column → End → List Row → List StageAudit → Type 0
-AreLastAudits level k cs l rows audits = (leaves : Option (List Leaf)) × IsLastAudit cs l rows level leaves × IsTold k (last_name l) (last_items l rows) leaves audits
+abbrev pub AreLastAudits : Manner → ℕ → List Column → End → List Row → List StageAudit → Type 0
+AreLastAudits manner k cs l rows audits = (leaves : Option (List Leaf)) × IsLastAudit cs l rows manner leaves × IsTold k (last_name l) (last_items l rows) leaves audits
 
 -- ---- steps
 
@@ -106,16 +107,16 @@ told_before audits (Ok t) = Ok (t.0, audits ++ t.1)
 told_before audits (Err o) = Err o
 
 -- the last step, with this number: its answer and its audit, or the fault in their place
-abbrev pub IsEnd : ℕ → ℕ → List Column → End → List Row → Result Told Outcome → Type 0
-IsEnd level k cs last rows (Ok t) = (last_fault cs last rows ≡ None) × IsAnswerText cs last rows t.0 × AreLastAudits level k cs last rows t.1
-IsEnd level k cs last rows (Err o) = (fault : FaultAt) × (last_fault cs last rows ≡ Some fault) × (o ≡ Fault k fault.at fault.kind)
+abbrev pub IsEnd : Manner → ℕ → List Column → End → List Row → Result Told Outcome → Type 0
+IsEnd manner k cs last rows (Ok t) = (last_fault cs last rows ≡ None) × IsAnswerText cs last rows t.0 × AreLastAudits manner k cs last rows t.1
+IsEnd manner k cs last rows (Err o) = (fault : FaultAt) × (last_fault cs last rows ≡ Some fault) × (o ≡ Fault k fault.at fault.kind)
 
 -- the steps and the last step, of which the first has this number: the first that stops decides
-unfoldable pub IsRun : ℕ → ℕ → List Column → List Middle → End → List Row → Result Told Outcome → Type 0
-IsRun level k cs [] last rows r = IsEnd level k cs last rows r
-IsRun level k cs (m ∷ ms) last rows r =
+unfoldable pub IsRun : Manner → ℕ → List Column → List Middle → End → List Row → Result Told Outcome → Type 0
+IsRun manner k cs [] last rows r = IsEnd manner k cs last rows r
+IsRun manner k cs (m ∷ ms) last rows r =
     Then (λ q. q ≡ stage_result k (after cs m rows)) (λ next r.
-    (audits : List StageAudit) × AreAuditsOf level k cs m rows audits × (behind : Result Told Outcome) × IsRun level (k + 1) (step_columns cs m) ms last next behind × (r ≡ told_before audits behind)) r
+    (audits : List StageAudit) × AreAuditsOf manner k cs m rows audits × (behind : Result Told Outcome) × IsRun manner (k + 1) (step_columns cs m) ms last next behind × (r ≡ told_before audits behind)) r
 
 -- the whole text: the answer, and behind it the audits where they are asked for
 abbrev pub whole_text : Bool → Told → List ℕ

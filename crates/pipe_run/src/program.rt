@@ -4,15 +4,16 @@ ghost use Rattle.par_edge.specs.Count.{Rose};
 ghost use Rattle.par_edge.specs.Files.{IfTold};
 ghost use Rattle.pipe_words.specs.Commands.{command_of};
 ghost use Rattle.pipe_words.specs.Views.{view};
-ghost use Rattle.pipe_run.specs.Answers.{HasLevel, IsRuling};
+ghost use Rattle.pipe_run.specs.Answers.{IsRunnable, IsRuling};
 ghost use Rattle.pipe_run.specs.Endings.{Ends, IsExact, Tells};
 ghost use Rattle.pipe_run.specs.declared.outcome.Outcome.{Outcome};
 ghost use Rattle.pipe_run.specs.declared.outcome.Outcome.TheVariants as is;
 
 use crate::lines::say;
 use crate::outcome::{Outcome, status};
-use crate::run::{check_alone, run_alone_main};
+use crate::run::{check_alone, run_alone_main, run_main};
 use par_edge::{Gate, Shelf, Sink};
+use par_pool::Plan;
 use pipe_program::text_laws;
 use pipe_words::{Command, read_words, word_laws};
 use std::alloc::Global;
@@ -20,14 +21,15 @@ use std::sync::Wait;
 use std::thread::Threads;
 
 // Does what is asked for.
-fn run_command<H: Shelf, O: Sink, G: Gate + Sync>(
+fn run_command<H: Shelf, O: Sink, G: Gate + Sync, X: Threads + Wait + Sync>(
+    rt: &X,
     alloc: Global,
     command: Command<'_>,
     shelf: &mut H,
     out: &mut O,
     gate: &G,
 ) -> Outcome
-    requires { HasLevel (view command) }
+    requires { IsRunnable (view command) }
     ensures ends { Ends (IsRuling (Some (view command.entry))) (H.state shelf.old) (H.state shelf.new) (O.state out.old) (O.state out.new) result }
     ensures lawful { result ≢ is.Usage }
 {
@@ -38,13 +40,14 @@ fn run_command<H: Shelf, O: Sink, G: Gate + Sync>(
             workers: _,
             level,
             audit,
-        } => run_alone_main(alloc, pipe, data, audit, level, shelf, out, gate),
+        } => run_alone_main(runner, alloc, pipe, data, audit, level, shelf, out, gate),
         Command::Check { pipe } => check_alone(alloc, pipe, shelf, out),
     }
 }
 
 // Does what the words ask for.
-fn run_words<H: Shelf, O: Sink, G: Gate + Sync>(
+fn run_words<H: Shelf, O: Sink, G: Gate + Sync, X: Threads + Wait + Sync>(
+    rt: &X,
     alloc: Global,
     words: &[String],
     shelf: &mut H,
@@ -57,7 +60,7 @@ fn run_words<H: Shelf, O: Sink, G: Gate + Sync>(
 {
     word_laws();
     match read_words(alloc, words) {
-        Ok(Some(command)) => run_command(alloc, command, shelf, out, gate),
+        Ok(Some(command)) => run_command(rt, alloc, command, shelf, out, gate),
         Ok(None) => Outcome::Usage,
         Err(_) => Outcome::Memory,
     }
@@ -65,12 +68,15 @@ fn run_words<H: Shelf, O: Sink, G: Gate + Sync>(
 
 /// Runs the program on the words after its name, and answers its status.
 ///
+/// A run by more workers than one starts threads, and has the answer of one worker, but that `find` may name any row that
+/// passes.
+///
 /// Reads from `shelf`, writes the answer to `out`, and says on `err` why there is none. Status 0 comes with the whole
 /// text of the answer; 2 where the words are not lawful; 3 where the pipeline is refused; 4 where the data is; 5 where a
 /// read failed; 6 where a write to `out` failed, after a prefix of the text; 7 past a limit; 8 for want of memory; 9
 /// where a value faults. A fault of `err` is passed over.
 pub fn parcoll<H: Shelf, O: Sink, E: Sink, G: Gate + Sync, X: Threads + Wait + Sync>(
-    _rt: &X,
+    rt: &X,
     alloc: Global,
     words: &[String],
     shelf: &mut H,
@@ -89,7 +95,7 @@ pub fn parcoll<H: Shelf, O: Sink, E: Sink, G: Gate + Sync, X: Threads + Wait + S
     ensures refused { command_of (map string_bytes words.now) ≡ None → (result ≡ 2) ⊎ (result ≡ 8) }
 {
     text_laws();
-    let outcome = run_words(alloc, words, shelf, out, gate);
+    let outcome = run_words(rt, alloc, words, shelf, out, gate);
     say(err, &outcome);
     status(&outcome)
 }

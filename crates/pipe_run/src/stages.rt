@@ -1,5 +1,7 @@
 //! The steps of a pipeline over its rows, and the answer.
 ghost use Rattle.std.specs.Prelude.{◌≡◌, ◌≤◌, ◌<◌, ◌+◌, ◌^◌, ◌++◌, [], length, Ok, Err, IfOk, IfErr, OnOk};
+ghost use Rattle.par_task.specs.Manners.{alone};
+ghost use Rattle.par_pool.specs.Plans.{planned};
 ghost use Rattle.pipe_steps.specs.Said.{last_view, middle_view};
 ghost use Rattle.pipe_stages.specs.Rows.{listed, pointed};
 ghost use Rattle.pipe_run.specs.Rests.{IsBehind, IsReady, IsRunOf, Notes, Reaches, items_told, last_told};
@@ -9,13 +11,16 @@ ghost use Rattle.pipe_run.specs.Rulings.{IsInner, UnlessFree};
 use crate::{Counted, Outcome};
 use par_edge::Gate;
 use par_laws::Memory;
+use par_pool::Plan;
 use par_rows::{Row, Schema};
 use par_task::Audit;
-use pipe_answers::{StageAudit, run_last};
+use pipe_answers::{StageAudit, run_last, run_last_alone};
 use pipe_checks::step_columns;
-use pipe_stages::{StepStop, Stepped, run_step};
+use pipe_stages::{StepStop, Stepped, run_step, run_step_alone};
 use pipe_steps::{Last, Step};
 use std::alloc::Global;
+use std::sync::Wait;
+use std::thread::Threads;
 
 /// The most rows of a step.
 const MAX_ITEMS: u64 = 4_194_304;
@@ -182,7 +187,34 @@ fn behind<'p>(
 }
 
 // Runs the last step.
-fn run_end<G: Gate + Sync>(
+fn run_end<G: Gate + Sync, T: Threads + Wait + Sync>(
+    rt: &T,
+    alloc: Global,
+    rest: &Rest<'_>,
+    rows: &[&Row],
+    plan: &Plan<'_, G>,
+    audits: &mut Vec<StageAudit>,
+) -> Result<Vec<u8>, Outcome>
+    requires ready { IsReady rest.now }
+    requires over { rest.now.steps.now ≡ [] }
+    requires small { length rows.now ≤ 4194304 }
+    requires level { (1 ≤ plan.now.level) × (plan.now.level ≤ 64) }
+    requires workers { (1 ≤ plan.now.workers) × (plan.now.workers ≤ 64) }
+    ensures text { IfOk result (λ text. Notes audits.old.items audits.new.items (λ told. IsRunOf (planned plan.now.workers plan.now.level) rest.now (pointed rows.now) (Ok (text.items, told)))) }
+    ensures stopped { IfErr result (λ o. IsInner o × UnlessFree o (IsRunOf (planned plan.now.workers plan.now.level) rest.now (pointed rows.now) (Err o))) }
+{
+    match run_last(rt, alloc, rest.last, &rest.schema, rows, plan) {
+        Ok((text, audit)) => {
+            let (name, items) = (last_name(rest.last), last_items(rest.last, rows.len()));
+            note(audits, rest.number, name, items, audit)?;
+            Ok(text)
+        }
+        Err(stop) => Err(stage_outcome(rest.number, stop)),
+    }
+}
+
+// `run_end` on the caller's thread alone.
+fn run_end_alone<G: Gate + Sync>(
     alloc: Global,
     rest: &Rest<'_>,
     rows: &[&Row],
@@ -194,10 +226,10 @@ fn run_end<G: Gate + Sync>(
     requires over { rest.now.steps.now ≡ [] }
     requires small { length rows.now ≤ 4194304 }
     requires level { (1 ≤ level) × (level ≤ 64) }
-    ensures text { IfOk result (λ text. Notes audits.old.items audits.new.items (λ told. IsRunOf level rest.now (pointed rows.now) (Ok (text.items, told)))) }
-    ensures stopped { IfErr result (λ o. IsInner o × UnlessFree o (IsRunOf level rest.now (pointed rows.now) (Err o))) }
+    ensures text { IfOk result (λ text. Notes audits.old.items audits.new.items (λ told. IsRunOf (alone level) rest.now (pointed rows.now) (Ok (text.items, told)))) }
+    ensures stopped { IfErr result (λ o. IsInner o × UnlessFree o (IsRunOf (alone level) rest.now (pointed rows.now) (Err o))) }
 {
-    match run_last(alloc, rest.last, &rest.schema, rows, level, gate) {
+    match run_last_alone(alloc, rest.last, &rest.schema, rows, level, gate) {
         Ok((text, audit)) => {
             let (name, items) = (last_name(rest.last), last_items(rest.last, rows.len()));
             note(audits, rest.number, name, items, audit)?;
@@ -208,7 +240,39 @@ fn run_end<G: Gate + Sync>(
 }
 
 // Runs steps over picks of one table, up to one that makes rows of its own, or to the end.
-fn run_picks<'p, G: Gate + Sync>(
+fn run_picks<'p, G: Gate + Sync, T: Threads + Wait + Sync>(
+    rt: &T,
+    alloc: Global,
+    rest: Rest<'p>,
+    rows: &[&Row],
+    plan: &Plan<'_, G>,
+    audits: &mut Vec<StageAudit>,
+) -> Result<Reached<'p>, Outcome>
+    requires ready { IsReady rest }
+    requires small { length rows.now ≤ 4194304 }
+    requires level { (1 ≤ plan.now.level) × (plan.now.level ≤ 64) }
+    requires workers { (1 ≤ plan.now.workers) × (plan.now.workers ≤ 64) }
+    ensures reached { IfOk result (λ reached. Notes audits.old.items audits.new.items (λ told. Reaches (planned plan.now.workers plan.now.level) rest.entry (pointed rows.now) told reached)) }
+    ensures stopped { IfErr result (λ o. IsInner o × UnlessFree o (IsRunOf (planned plan.now.workers plan.now.level) rest.entry (pointed rows.now) (Err o))) }
+{
+    let Some((step, steps)) = rest.steps.split_first() else {
+        return Ok(Reached::Answer(run_end(rt, alloc, &rest, rows, plan, audits)?));
+    };
+    let (stepped, audit) = match run_step(rt, alloc, step, &rest.schema, rows, plan) {
+        Ok(ran) => ran,
+        Err(stop) => return Err(stage_outcome(rest.number, stop)),
+    };
+    let items = step_items(step, rows.len(), rows_after(&stepped));
+    note(audits, rest.number, step_name(step), items, audit)?;
+    let rest = behind(alloc, rest.number, &rest.schema, step, steps, rest.last)?;
+    match stepped {
+        Stepped::Picked(picks) => run_picks(rt, alloc, rest, &picks, plan, audits),
+        Stepped::Made(table) => Ok(Reached::Table(table, rest)),
+    }
+}
+
+// `run_picks` on the caller's thread alone.
+fn run_picks_alone<'p, G: Gate + Sync>(
     alloc: Global,
     rest: Rest<'p>,
     rows: &[&Row],
@@ -219,13 +283,13 @@ fn run_picks<'p, G: Gate + Sync>(
     requires ready { IsReady rest }
     requires small { length rows.now ≤ 4194304 }
     requires level { (1 ≤ level) × (level ≤ 64) }
-    ensures reached { IfOk result (λ reached. Notes audits.old.items audits.new.items (λ told. Reaches level rest.entry (pointed rows.now) told reached)) }
-    ensures stopped { IfErr result (λ o. IsInner o × UnlessFree o (IsRunOf level rest.entry (pointed rows.now) (Err o))) }
+    ensures reached { IfOk result (λ reached. Notes audits.old.items audits.new.items (λ told. Reaches (alone level) rest.entry (pointed rows.now) told reached)) }
+    ensures stopped { IfErr result (λ o. IsInner o × UnlessFree o (IsRunOf (alone level) rest.entry (pointed rows.now) (Err o))) }
 {
     let Some((step, steps)) = rest.steps.split_first() else {
-        return Ok(Reached::Answer(run_end(alloc, &rest, rows, level, gate, audits)?));
+        return Ok(Reached::Answer(run_end_alone(alloc, &rest, rows, level, gate, audits)?));
     };
-    let (stepped, audit) = match run_step(alloc, step, &rest.schema, rows, level, gate) {
+    let (stepped, audit) = match run_step_alone(alloc, step, &rest.schema, rows, level, gate) {
         Ok(ran) => ran,
         Err(stop) => return Err(stage_outcome(rest.number, stop)),
     };
@@ -233,7 +297,7 @@ fn run_picks<'p, G: Gate + Sync>(
     note(audits, rest.number, step_name(step), items, audit)?;
     let rest = behind(alloc, rest.number, &rest.schema, step, steps, rest.last)?;
     match stepped {
-        Stepped::Picked(picks) => run_picks(alloc, rest, &picks, level, gate, audits),
+        Stepped::Picked(picks) => run_picks_alone(alloc, rest, &picks, level, gate, audits),
         Stepped::Made(table) => Ok(Reached::Table(table, rest)),
     }
 }
@@ -246,7 +310,27 @@ fn all_rows(alloc: Global, table: &[Row]) -> Result<Vec<&Row>, Memory>
 }
 
 // Runs steps over all rows of a table, as far as `run_picks` goes.
-fn run_table<'p, G: Gate + Sync>(
+fn run_table<'p, G: Gate + Sync, T: Threads + Wait + Sync>(
+    rt: &T,
+    alloc: Global,
+    rest: Rest<'p>,
+    table: &[Row],
+    plan: &Plan<'_, G>,
+    audits: &mut Vec<StageAudit>,
+) -> Result<Reached<'p>, Outcome>
+    requires ready { IsReady rest }
+    requires small { length table.now ≤ 4194304 }
+    requires level { (1 ≤ plan.now.level) × (plan.now.level ≤ 64) }
+    requires workers { (1 ≤ plan.now.workers) × (plan.now.workers ≤ 64) }
+    ensures reached { IfOk result (λ reached. Notes audits.old.items audits.new.items (λ told. Reaches (planned plan.now.workers plan.now.level) rest.entry table.now told reached)) }
+    ensures stopped { IfErr result (λ o. IsInner o × UnlessFree o (IsRunOf (planned plan.now.workers plan.now.level) rest.entry table.now (Err o))) }
+{
+    let rows = all_rows(alloc, table)?;
+    run_picks(rt, alloc, rest, &rows, plan, audits)
+}
+
+// `run_table` on the caller's thread alone.
+fn run_table_alone<'p, G: Gate + Sync>(
     alloc: Global,
     rest: Rest<'p>,
     table: &[Row],
@@ -257,16 +341,40 @@ fn run_table<'p, G: Gate + Sync>(
     requires ready { IsReady rest }
     requires small { length table.now ≤ 4194304 }
     requires level { (1 ≤ level) × (level ≤ 64) }
-    ensures reached { IfOk result (λ reached. Notes audits.old.items audits.new.items (λ told. Reaches level rest.entry table.now told reached)) }
-    ensures stopped { IfErr result (λ o. IsInner o × UnlessFree o (IsRunOf level rest.entry table.now (Err o))) }
+    ensures reached { IfOk result (λ reached. Notes audits.old.items audits.new.items (λ told. Reaches (alone level) rest.entry table.now told reached)) }
+    ensures stopped { IfErr result (λ o. IsInner o × UnlessFree o (IsRunOf (alone level) rest.entry table.now (Err o))) }
 {
     let rows = all_rows(alloc, table)?;
-    run_picks(alloc, rest, &rows, level, gate, audits)
+    run_picks_alone(alloc, rest, &rows, level, gate, audits)
 }
 
 /// Runs what is left of a pipeline over the rows of a table, and notes the audits in step order. A table is dropped once
 /// the rows that a step made of it are there; the rows of a table are not copied where steps only pick or reorder them.
-pub fn run_stages<G: Gate + Sync>(
+pub fn run_stages<G: Gate + Sync, T: Threads + Wait + Sync>(
+    rt: &T,
+    alloc: Global,
+    rest: Rest<'_>,
+    table: Vec<Row>,
+    plan: &Plan<'_, G>,
+    audits: &mut Vec<StageAudit>,
+) -> Result<Vec<u8>, Outcome>
+    requires ready { IsReady rest }
+    requires small { length table.items ≤ 4194304 }
+    requires level { (1 ≤ plan.now.level) × (plan.now.level ≤ 64) }
+    requires workers { (1 ≤ plan.now.workers) × (plan.now.workers ≤ 64) }
+    ensures text { IfOk result (λ text. Notes audits.old.items audits.new.items (λ told. IsRunOf (planned plan.now.workers plan.now.level) rest.entry table.items (Ok (text.items, told)))) }
+    ensures stopped { IfErr result (λ o. IsInner o × UnlessFree o (IsRunOf (planned plan.now.workers plan.now.level) rest.entry table.items (Err o))) }
+{
+    let reached = run_table(rt, alloc, rest, &table, plan, audits)?;
+    drop(table);
+    match reached {
+        Reached::Answer(text) => Ok(text),
+        Reached::Table(made, behind) => run_stages(rt, alloc, behind, made, plan, audits),
+    }
+}
+
+/// `run_stages` on the caller's thread alone. It takes neither threads nor waits.
+pub fn run_stages_alone<G: Gate + Sync>(
     alloc: Global,
     rest: Rest<'_>,
     table: Vec<Row>,
@@ -277,13 +385,13 @@ pub fn run_stages<G: Gate + Sync>(
     requires ready { IsReady rest }
     requires small { length table.items ≤ 4194304 }
     requires level { (1 ≤ level) × (level ≤ 64) }
-    ensures text { IfOk result (λ text. Notes audits.old.items audits.new.items (λ told. IsRunOf level rest.entry table.items (Ok (text.items, told)))) }
-    ensures stopped { IfErr result (λ o. IsInner o × UnlessFree o (IsRunOf level rest.entry table.items (Err o))) }
+    ensures text { IfOk result (λ text. Notes audits.old.items audits.new.items (λ told. IsRunOf (alone level) rest.entry table.items (Ok (text.items, told)))) }
+    ensures stopped { IfErr result (λ o. IsInner o × UnlessFree o (IsRunOf (alone level) rest.entry table.items (Err o))) }
 {
-    let reached = run_table(alloc, rest, &table, level, gate, audits)?;
+    let reached = run_table_alone(alloc, rest, &table, level, gate, audits)?;
     drop(table);
     match reached {
         Reached::Answer(text) => Ok(text),
-        Reached::Table(made, behind) => run_stages(alloc, behind, made, level, gate, audits),
+        Reached::Table(made, behind) => run_stages_alone(alloc, behind, made, level, gate, audits),
     }
 }

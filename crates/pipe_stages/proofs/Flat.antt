@@ -11,9 +11,10 @@ use Rattle.std.specs.Str.{chars}
 use Rattle.par_rows.specs.declared.row.Row.{Row}
 use Rattle.par_rows.specs.declared.value.Value.TheVariants.{Text}
 use Rattle.pipe_eval.specs.Answers.{row_of, text_held}
+use Rattle.par_task.specs.Manners.{Manner}
 use Rattle.par_task.specs.Marking.{no_test}
 use Rattle.par_task.specs.declared.audit.Leaf.{Leaf}
-use Rattle.par_jobs.specs.Runs.{IsRunAlone, untested}
+use Rattle.par_jobs.specs.Runs.{IsRunOver, untested}
 use Rattle.par_transform.specs.TooMany.{IsStop}
 use Rattle.par_transform.specs.declared.stop.FlatStop.{FlatStop}
 use Rattle.par_transform.specs.declared.stop.FlatStop.TheVariants as flats
@@ -33,10 +34,10 @@ pub many_rows : (rows : List Row) → 4194304 < length rows → at_most rows ≡
 many_rows rows many = ap (λ t. cond t (Err TooMany) (Ok rows)) (lt-ltb 4194304 (length rows) many)
 
 pub flat_gives :
-    (f : Row → List Row) (items rows : List Row) (level : ℕ) (all : Vec Row) (leaves : List Leaf) → items ≡ rows → map (λ row. row) all.items ≡ flat_map f items → length (flat_map f items) ≤ 4194304 →
-    IsRunAlone no_test untested items level leaves → Gives (at_most (flat_map f rows)) (IsRun no_test untested rows level) (Ok (Made all, Some leaves))
-flat_gives f items rows level all leaves same h few run =
-    subst (λ r. Gives (at_most (flat_map f r)) (IsRun no_test untested r level) (Ok (Made all, Some leaves))) same
+    (f : Row → List Row) (items rows : List Row) (manner : Manner) (all : Vec Row) (leaves : List Leaf) → items ≡ rows → map (λ row. row) all.items ≡ flat_map f items → length (flat_map f items) ≤ 4194304 →
+    IsRunOver no_test untested items manner leaves → Gives (at_most (flat_map f rows)) (IsRun no_test untested rows manner) (Ok (Made all, Some leaves))
+flat_gives f items rows manner all leaves same h few run =
+    subst (λ r. Gives (at_most (flat_map f r)) (IsRun no_test untested r manner) (Ok (Made all, Some leaves))) same
     (few_rows (flat_map f items) few ∙ ap Ok (sym h ∙ map-id all.items), run)
 
 stops_as : (rows : List Row) (stop : FlatStop) → IsStop (length rows) stop → StopsAs (at_most rows) (of_flat stop)

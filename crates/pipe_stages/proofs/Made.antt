@@ -12,11 +12,12 @@ use Rattle.par_laws.specs.declared.tried.FaultAt.{FaultAt}
 use Rattle.par_laws.specs.declared.tried.Tried.{Tried}
 use Rattle.par_laws.specs.declared.tried.Tried.TheVariants as tried
 use Rattle.par_rows.specs.declared.row.Row.{Row}
+use Rattle.par_task.specs.Manners.{Manner}
 use Rattle.par_task.specs.declared.audit.Leaf.{Leaf}
 use Rattle.par_laws.specs.declared.test.Verdict.{Verdict}
 use Rattle.par_task.specs.Marking.{no_flag, no_test, passes}
 use Rattle.par_jobs.specs.Faults.{IsTried, fault_of, least_fault}
-use Rattle.par_jobs.specs.Runs.{IsRunAlone, untested}
+use Rattle.par_jobs.specs.Runs.{IsRunOver, untested}
 use Rattle.pipe_stages.specs.Audits.{IsRun}
 use Rattle.pipe_stages.specs.Runs.{Gives, collected_run, made_run}
 use Rattle.pipe_stages.specs.Stages.{Answer, all_made, each_made, led_by, then_made, unless}
@@ -52,21 +53,21 @@ collected_gives (Some first) chosen f audited (tried.Got all) leaves h a = absur
 collected_gives (Some first) chosen f audited (tried.Fault at) leaves h a = ap (λ t. Err (Fault t)) (sym h)
 
 -- The same where the mapper that ran makes what is meant, of these rows.
-module _ (bound meant : Row → Made Row) (items rows : List Row) (level : ℕ) (leaves : List Leaf) (same_made : bound ≡ meant) (same_rows : items ≡ rows) where
-  pub mapped_gives : (all : Yield (Vec Row)) → Stands all (map bound items) → IsRunAlone no_test untested items level leaves → Gives (each_made meant rows) (IsRun no_test untested rows level) (made_run all leaves)
+module _ (bound meant : Row → Made Row) (items rows : List Row) (manner : Manner) (leaves : List Leaf) (same_made : bound ≡ meant) (same_rows : items ≡ rows) where
+  pub mapped_gives : (all : Yield (Vec Row)) → Stands all (map bound items) → IsRunOver no_test untested items manner leaves → Gives (each_made meant rows) (IsRun no_test untested rows manner) (made_run all leaves)
   mapped_gives all h run =
-      subst (λ f. Gives (each_made f rows) (IsRun no_test untested rows level) (made_run all leaves)) same_made
-      (subst (λ r. Gives (each_made bound r) (IsRun no_test untested r level) (made_run all leaves)) same_rows
-      (made_gives (map bound items) (IsRun no_test untested items level) all leaves h run))
+      subst (λ f. Gives (each_made f rows) (IsRun no_test untested rows manner) (made_run all leaves)) same_made
+      (subst (λ r. Gives (each_made bound r) (IsRun no_test untested r manner) (made_run all leaves)) same_rows
+      (made_gives (map bound items) (IsRun no_test untested items manner) all leaves h run))
 
   pub chosen_gives :
       (tested wanted : Row → Verdict) (kept : Tried (Yield (Vec Row))) → tested ≡ wanted →
-      IsTried (least_fault (map tested items)) (λ all. Stands all (map bound (filter (λ x. passes (tested x)) items))) kept → IsRunAlone no_flag tested items level leaves →
-      Gives (then_made meant (unless (fault_of no_flag (map wanted rows)) (filter (λ x. passes (wanted x)) rows))) (IsRun no_flag wanted rows level) (collected_run kept leaves)
+      IsTried (least_fault (map tested items)) (λ all. Stands all (map bound (filter (λ x. passes (tested x)) items))) kept → IsRunOver no_flag tested items manner leaves →
+      Gives (then_made meant (unless (fault_of no_flag (map wanted rows)) (filter (λ x. passes (wanted x)) rows))) (IsRun no_flag wanted rows manner) (collected_run kept leaves)
   chosen_gives tested wanted kept same_tests h run =
       let given : (Row → Made Row) → List Row → (Row → Verdict) → Type 0 =
-      λ f r v. Gives (then_made f (unless (fault_of no_flag (map v r)) (filter (λ x. passes (v x)) r))) (IsRun no_flag v r level) (collected_run kept leaves) in
+      λ f r v. Gives (then_made f (unless (fault_of no_flag (map v r)) (filter (λ x. passes (v x)) r))) (IsRun no_flag v r manner) (collected_run kept leaves) in
       subst (λ f. given f rows wanted) same_made
       (subst (λ r. given bound r wanted) same_rows
       (subst (λ v. given bound items v) same_tests
-      (collected_gives (least_fault (map tested items)) (filter (λ x. passes (tested x)) items) bound (IsRun no_flag tested items level) kept leaves h run)))
+      (collected_gives (least_fault (map tested items)) (filter (λ x. passes (tested x)) items) bound (IsRun no_flag tested items manner) kept leaves h run)))

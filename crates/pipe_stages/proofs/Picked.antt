@@ -8,10 +8,11 @@ use Rattle.par_laws.specs.declared.tried.FaultAt.{FaultAt}
 use Rattle.par_laws.specs.declared.tried.Tried.{Tried}
 use Rattle.par_laws.specs.declared.tried.Tried.TheVariants as tried
 use Rattle.par_rows.specs.declared.row.Row.{Row}
+use Rattle.par_task.specs.Manners.{Manner}
 use Rattle.par_task.specs.Marking.{Kind}
 use Rattle.par_task.specs.declared.audit.Leaf.{Leaf}
 use Rattle.par_jobs.specs.Faults.{IsTried}
-use Rattle.par_jobs.specs.Runs.{IsRunAlone}
+use Rattle.par_jobs.specs.Runs.{IsRunOver}
 use Rattle.pipe_stages.specs.Audits.{IsRun}
 use Rattle.pipe_stages.specs.Rows.{pointed}
 use Rattle.pipe_stages.specs.Runs.{Gives, ran}
@@ -29,13 +30,13 @@ tried_gives (Some first) rows audited (tried.Fault fault) leaves h a = ap (λ f.
 -- Rows that a test chooses: `first` is the fault by the test's verdicts, `choose` what it chooses, and `told` the verdict
 -- that the audit tells of. The test that ran answers as the one that is meant.
 module _
-    (first : (Row → Verdict) → List Row → Option FaultAt) (choose : (Row → Verdict) → List Row → List Row) (kind : Kind) (told : (Row → Verdict) → Row → Verdict) (level : ℕ)
+    (first : (Row → Verdict) → List Row → Option FaultAt) (choose : (Row → Verdict) → List Row → List Row) (kind : Kind) (told : (Row → Verdict) → Row → Verdict) (manner : Manner)
     (kept : Tried (Vec (Bor Row))) (leaves : List Leaf) where
   abbrev pub Chosen : (Row → Verdict) → List Row → Type 0
-  Chosen verdict rows = Gives (unless (first verdict rows) (choose verdict rows)) (IsRun kind (told verdict) rows level) (ran kept leaves)
+  Chosen verdict rows = Gives (unless (first verdict rows) (choose verdict rows)) (IsRun kind (told verdict) rows manner) (ran kept leaves)
 
   pub chosen :
       (bound meant : Row → Verdict) (items rows : List Row) → bound ≡ meant → items ≡ rows →
-      IsTried (first bound items) (λ out. pointed out.items ≡ map (λ row. row) (choose bound items)) kept → IsRunAlone kind (told bound) items level leaves → Chosen meant rows
+      IsTried (first bound items) (λ out. pointed out.items ≡ map (λ row. row) (choose bound items)) kept → IsRunOver kind (told bound) items manner leaves → Chosen meant rows
   chosen bound meant items rows e f h a =
-      subst (λ v. Chosen v rows) e (subst (Chosen bound) f (tried_gives (first bound items) (choose bound items) (IsRun kind (told bound) items level) kept leaves h a))
+      subst (λ v. Chosen v rows) e (subst (Chosen bound) f (tried_gives (first bound items) (choose bound items) (IsRun kind (told bound) items manner) kept leaves h a))

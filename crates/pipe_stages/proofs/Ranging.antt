@@ -11,9 +11,10 @@ use Rattle.std.proofs.lemmas.List.{length-map, map-id}
 use Rattle.par_rows.specs.declared.row.Row.{Row}
 use Rattle.par_rows.specs.declared.value.Value.TheVariants as v
 use Rattle.par_splitter.specs.Range.{IsBefore, IsRange, IsRangeCount, IsReached, stepped}
+use Rattle.par_task.specs.Manners.{Manner}
 use Rattle.par_task.specs.Marking.{no_test}
 use Rattle.par_task.specs.declared.audit.Leaf.{Leaf}
-use Rattle.par_jobs.specs.Runs.{IsRunAlone, untested}
+use Rattle.par_jobs.specs.Runs.{IsRunOver, untested}
 use Rattle.pipe_stages.specs.Ranges.{AreFirst}
 use Rattle.pipe_stages.specs.Stages.{comes_before, ranged, with_last}
 use Rattle.pipe_stages.proofs.Lengths.{run_as}
@@ -157,12 +158,12 @@ unbits P a b c a' b' c' ea eb ec h = subst (λ x. P x b c) ea (subst (λ y. P a'
 
 -- what a run over the pairs gives
 pub zip_gives :
-    (a b c : ℤ) (n level : ℕ) (rows items all : List Row) (numbers : List ℤ) (leaves : List Leaf) → c ≢ pos 0 → n ≡ length rows → items ≡ rows → AreFirst a b c n numbers →
-    map (λ x. x) all ≡ map number (zip items numbers) → IsRunAlone no_test untested (zip items numbers) level leaves →
-    (all ≡ ranged a b c rows) × IsRunAlone no_test untested (ranged a b c rows) level leaves
-zip_gives a b c n level rows items all numbers leaves some e same first h run =
+    (a b c : ℤ) (n : ℕ) (manner : Manner) (rows items all : List Row) (numbers : List ℤ) (leaves : List Leaf) → c ≢ pos 0 → n ≡ length rows → items ≡ rows → AreFirst a b c n numbers →
+    map (λ x. x) all ≡ map number (zip items numbers) → IsRunOver no_test untested (zip items numbers) manner leaves →
+    (all ≡ ranged a b c rows) × IsRunOver no_test untested (ranged a b c rows) manner leaves
+zip_gives a b c n manner rows items all numbers leaves some e same first h run =
     let whole : map number (zip items numbers) ≡ ranged a b c rows =
     ap (λ r. map number (zip r numbers)) same ∙ (ap (λ l. map number (zip rows l)) first.2 ∙ beside a b c first.0 n rows some e first.1) in (
       sym (map-id all) ∙ (h ∙ whole),
-      run_as (zip items numbers) (ranged a b c rows) level leaves (sym (length-map (zip items numbers) number) ∙ ap length whole) run,
+      run_as (zip items numbers) (ranged a b c rows) manner leaves (sym (length-map (zip items numbers) number) ∙ ap length whole) run,
     )

@@ -21,7 +21,7 @@ mod stepped;
 mod stop;
 
 pub use picks::CopySplitter;
-pub use step::{is_built, run_step};
+pub use step::{is_built, run_step, run_step_alone};
 pub use stepped::Stepped;
 pub use stop::StepStop;
 

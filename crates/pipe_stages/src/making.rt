@@ -2,6 +2,8 @@
 ghost use Rattle.std.specs.Prelude.{◌≡◌, ◌≢◌, ◌≤◌, length, map, true, ◌++◌, Ok, IfOk, OnOk, pos};
 ghost use Rattle.par_rows.specs.declared.value.Value.TheVariants.{Int as IntValue};
 ghost use Rattle.par_task.specs.Marking.{no_flag, no_test};
+ghost use Rattle.par_task.specs.Manners.{alone};
+ghost use Rattle.par_pool.specs.Plans.{planned};
 ghost use Rattle.par_jobs.specs.Runs.{untested};
 ghost use Rattle.par_splitter.specs.Range.{IsReached};
 ghost use Rattle.pipe_checks.specs.Kinds.{fits};
@@ -23,14 +25,16 @@ use crate::stop::StepStop;
 use par_combiner::{ArrayCombiner, Faulted, Yield};
 use par_edge::Gate;
 use par_laws::{FaultAt, Keep, Mapper, Memory, Tried};
+use par_pool::Plan;
 use par_rows::{Row, Schema, Value, Values};
 use par_splitter::{RangeSplitter, Splitter, range_count};
 use par_task::Audit;
-use par_transform::{collect_alone, map_alone, zip_alone, zip_with_index_alone};
 use pipe_eval::{Condition, Maker};
 use pipe_expr::Expr;
 use pipe_steps::Named;
 use std::alloc::Global;
+use std::sync::Wait;
+use std::thread::Threads;
 
 /// Gathers the rows that are made, or the first fault.
 type Makes = Faulted<ArrayCombiner<Row>>;
@@ -56,7 +60,30 @@ fn collected<'a>(kept: Tried<Yield<Vec<Row>>>, audit: Audit) -> Result<Ran<'a>, 
 }
 
 /// The row of each row's values.
-pub(crate) fn map<'a, G: Gate>(
+pub(crate) fn map<'a, G: Gate + Sync, T: Threads + Wait + Sync>(
+    rt: &T,
+    alloc: Global,
+    fields: &[Named],
+    schema: &Schema,
+    rows: &[&'a Row],
+    plan: &Plan<'_, G>,
+) -> Result<Ran<'a>, StepStop>
+    requires kinds { fields_pass (fits schema.now.columns.items) (map named_view fields.now) ≡ true }
+    requires small { length rows.now ≤ 4194304 }
+    requires level { (1 ≤ plan.now.level) × (plan.now.level ≤ 64) }
+    requires workers { (1 ≤ plan.now.workers) × (plan.now.workers ≤ 64) }
+    ensures { Gives (each_made (made_by schema.now.columns.items (map named_view fields.now)) (pointed rows.now)) (IsRun no_test untested (pointed rows.now) (planned plan.now.workers plan.now.level)) result }
+{
+    let maker = Maker::bind(alloc, fields, schema)?;
+    let source = CopySplitter::new(rows);
+    let (all, audit) = par_transform::map::<Source<'_, 'a>, Makes, G, Maker, T>(
+        rt, alloc, source, &maker, plan,
+    )?;
+    made(all, audit)
+}
+
+/// `map` on the caller's thread alone. It takes neither threads nor waits.
+pub(crate) fn map_alone<'a, G: Gate>(
     alloc: Global,
     fields: &[Named],
     schema: &Schema,
@@ -67,18 +94,44 @@ pub(crate) fn map<'a, G: Gate>(
     requires kinds { fields_pass (fits schema.now.columns.items) (map named_view fields.now) ≡ true }
     requires small { length rows.now ≤ 4194304 }
     requires level { (1 ≤ level) × (level ≤ 64) }
-    ensures { Gives (each_made (made_by schema.now.columns.items (map named_view fields.now)) (pointed rows.now)) (IsRun no_test untested (pointed rows.now) level) result }
+    ensures { Gives (each_made (made_by schema.now.columns.items (map named_view fields.now)) (pointed rows.now)) (IsRun no_test untested (pointed rows.now) (alone level)) result }
 {
     let maker = Maker::bind(alloc, fields, schema)?;
     let source = CopySplitter::new(rows);
-    let (all, audit) = map_alone::<Source<'_, 'a>, Makes, G, Maker>(
+    let (all, audit) = par_transform::map_alone::<Source<'_, 'a>, Makes, G, Maker>(
         alloc, source, &maker, level, gate,
     )?;
     made(all, audit)
 }
 
 /// The row of the values of each row that passes.
-pub(crate) fn collect<'a, G: Gate>(
+pub(crate) fn collect<'a, G: Gate + Sync, T: Threads + Wait + Sync>(
+    rt: &T,
+    alloc: Global,
+    fields: &[Named],
+    e: &Expr,
+    schema: &Schema,
+    rows: &[&'a Row],
+    plan: &Plan<'_, G>,
+) -> Result<Ran<'a>, StepStop>
+    requires kinds { fields_pass (fits schema.now.columns.items) (map named_view fields.now) ≡ true }
+    requires kind { fits schema.now.columns.items TruthWanted (view e.now) ≡ true }
+    requires small { length rows.now ≤ 4194304 }
+    requires level { (1 ≤ plan.now.level) × (plan.now.level ≤ 64) }
+    requires workers { (1 ≤ plan.now.workers) × (plan.now.workers ≤ 64) }
+    ensures { Gives (then_made (made_by schema.now.columns.items (map named_view fields.now)) (filtered schema.now.columns.items (view e.now) (pointed rows.now))) (IsRun no_flag (verdict_on schema.now.columns.items (view e.now)) (pointed rows.now) (planned plan.now.workers plan.now.level)) result }
+{
+    let test = Condition::bind(alloc, e, schema)?;
+    let maker = Maker::bind(alloc, fields, schema)?;
+    let source = CopySplitter::new(rows);
+    let (kept, audit) = par_transform::collect::<Source<'_, 'a>, Makes, G, Condition, Maker, T>(
+        rt, alloc, source, &test, &maker, plan,
+    )?;
+    collected(kept, audit)
+}
+
+/// `collect` on the caller's thread alone. It takes neither threads nor waits.
+pub(crate) fn collect_alone<'a, G: Gate>(
     alloc: Global,
     fields: &[Named],
     e: &Expr,
@@ -91,12 +144,12 @@ pub(crate) fn collect<'a, G: Gate>(
     requires kind { fits schema.now.columns.items TruthWanted (view e.now) ≡ true }
     requires small { length rows.now ≤ 4194304 }
     requires level { (1 ≤ level) × (level ≤ 64) }
-    ensures { Gives (then_made (made_by schema.now.columns.items (map named_view fields.now)) (filtered schema.now.columns.items (view e.now) (pointed rows.now))) (IsRun no_flag (verdict_on schema.now.columns.items (view e.now)) (pointed rows.now) level) result }
+    ensures { Gives (then_made (made_by schema.now.columns.items (map named_view fields.now)) (filtered schema.now.columns.items (view e.now) (pointed rows.now))) (IsRun no_flag (verdict_on schema.now.columns.items (view e.now)) (pointed rows.now) (alone level)) result }
 {
     let test = Condition::bind(alloc, e, schema)?;
     let maker = Maker::bind(alloc, fields, schema)?;
     let source = CopySplitter::new(rows);
-    let (kept, audit) = collect_alone::<Source<'_, 'a>, Makes, G, Condition, Maker>(
+    let (kept, audit) = par_transform::collect_alone::<Source<'_, 'a>, Makes, G, Condition, Maker>(
         alloc, source, &test, &maker, level, gate,
     )?;
     collected(kept, audit)
@@ -142,7 +195,30 @@ fn with_number(alloc: Global, row: &Row, number: i64) -> Result<Row, Memory>
 }
 
 /// Each row with its index as last value.
-pub(crate) fn zip_with_index<'a, G: Gate>(
+pub(crate) fn zip_with_index<'a, G: Gate + Sync, T: Threads + Wait + Sync>(
+    rt: &T,
+    alloc: Global,
+    rows: &[&'a Row],
+    plan: &Plan<'_, G>,
+) -> Result<Ran<'a>, StepStop>
+    requires small { length rows.now ≤ 4194304 }
+    requires level { (1 ≤ plan.now.level) × (plan.now.level ≤ 64) }
+    requires workers { (1 ≤ plan.now.workers) × (plan.now.workers ≤ 64) }
+    ensures { Gives (Ok (indexed (pointed rows.now))) (IsRun no_test untested (pointed rows.now) (planned plan.now.workers plan.now.level)) result }
+{
+    let source = CopySplitter::new(rows);
+    let (all, audit) = par_transform::zip_with_index::<
+        Source<'_, 'a>,
+        ArrayCombiner<Row>,
+        G,
+        WithNumber,
+        T,
+    >(rt, alloc, source, &WithNumber, plan)?;
+    Ok((Stepped::Made(all), Some(audit)))
+}
+
+/// `zip_with_index` on the caller's thread alone. It takes neither threads nor waits.
+pub(crate) fn zip_with_index_alone<'a, G: Gate>(
     alloc: Global,
     rows: &[&'a Row],
     level: u32,
@@ -150,16 +226,15 @@ pub(crate) fn zip_with_index<'a, G: Gate>(
 ) -> Result<Ran<'a>, StepStop>
     requires small { length rows.now ≤ 4194304 }
     requires level { (1 ≤ level) × (level ≤ 64) }
-    ensures { Gives (Ok (indexed (pointed rows.now))) (IsRun no_test untested (pointed rows.now) level) result }
+    ensures { Gives (Ok (indexed (pointed rows.now))) (IsRun no_test untested (pointed rows.now) (alone level)) result }
 {
     let source = CopySplitter::new(rows);
-    let (all, audit) = zip_with_index_alone::<Source<'_, 'a>, ArrayCombiner<Row>, G, WithNumber>(
-        alloc,
-        source,
-        &WithNumber,
-        level,
-        gate,
-    )?;
+    let (all, audit) = par_transform::zip_with_index_alone::<
+        Source<'_, 'a>,
+        ArrayCombiner<Row>,
+        G,
+        WithNumber,
+    >(alloc, source, &WithNumber, level, gate)?;
     Ok((Stepped::Made(all), Some(audit)))
 }
 
@@ -184,7 +259,36 @@ fn first_numbers(a: i64, b: i64, c: i64, n: u32) -> RangeSplitter
 }
 
 /// Each row with a number of `a until b by c` as last value, as far as both go.
-pub(crate) fn zip_range<'a, G: Gate>(
+pub(crate) fn zip_range<'a, G: Gate + Sync, T: Threads + Wait + Sync>(
+    rt: &T,
+    alloc: Global,
+    a: i64,
+    b: i64,
+    c: i64,
+    rows: &[&'a Row],
+    plan: &Plan<'_, G>,
+) -> Result<Ran<'a>, StepStop>
+    requires step { c ≢ pos 0 }
+    requires small { length rows.now ≤ 4194304 }
+    requires level { (1 ≤ plan.now.level) × (plan.now.level ≤ 64) }
+    requires workers { (1 ≤ plan.now.workers) × (plan.now.workers ≤ 64) }
+    ensures { Gives (Ok (ranged a b c (pointed rows.now))) (IsRun no_test untested (ranged a b c (pointed rows.now)) (planned plan.now.workers plan.now.level)) result }
+{
+    let numbers = first_numbers(a, b, c, rows.len() as u32);
+    let source = CopySplitter::new(rows);
+    let (all, audit) = par_transform::zip::<
+        Source<'_, 'a>,
+        ArrayCombiner<Row>,
+        G,
+        RangeSplitter,
+        WithNumber,
+        T,
+    >(rt, alloc, source, numbers, &WithNumber, plan)?;
+    Ok((Stepped::Made(all), Some(audit)))
+}
+
+/// `zip_range` on the caller's thread alone. It takes neither threads nor waits.
+pub(crate) fn zip_range_alone<'a, G: Gate>(
     alloc: Global,
     a: i64,
     b: i64,
@@ -196,11 +300,11 @@ pub(crate) fn zip_range<'a, G: Gate>(
     requires step { c ≢ pos 0 }
     requires small { length rows.now ≤ 4194304 }
     requires level { (1 ≤ level) × (level ≤ 64) }
-    ensures { Gives (Ok (ranged a b c (pointed rows.now))) (IsRun no_test untested (ranged a b c (pointed rows.now)) level) result }
+    ensures { Gives (Ok (ranged a b c (pointed rows.now))) (IsRun no_test untested (ranged a b c (pointed rows.now)) (alone level)) result }
 {
     let numbers = first_numbers(a, b, c, rows.len() as u32);
     let source = CopySplitter::new(rows);
-    let (all, audit) = zip_alone::<
+    let (all, audit) = par_transform::zip_alone::<
         Source<'_, 'a>,
         ArrayCombiner<Row>,
         G,

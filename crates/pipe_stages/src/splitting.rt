@@ -4,6 +4,8 @@ ghost use Rattle.std.specs.List.{flat_map};
 ghost use Rattle.std.specs.Str.{chars};
 ghost use Rattle.par_rows.specs.declared.value.Value.TheVariants.{Text as TextValue};
 ghost use Rattle.par_task.specs.Marking.{no_test};
+ghost use Rattle.par_task.specs.Manners.{alone};
+ghost use Rattle.par_pool.specs.Plans.{planned};
 ghost use Rattle.par_jobs.specs.Runs.{untested};
 ghost use Rattle.pipe_eval.specs.Answers.{row_of, text_held};
 ghost use Rattle.pipe_eval.specs.Bound.{place_named};
@@ -21,9 +23,11 @@ use crate::stop::StepStop;
 use par_combiner::ArrayCombiner;
 use par_edge::Gate;
 use par_laws::{Mapper, Memory, Words};
+use par_pool::Plan;
 use par_rows::{Column, Row, Schema, Value, Values};
-use par_transform::flat_map_alone;
 use std::alloc::Global;
+use std::sync::Wait;
+use std::thread::Threads;
 
 // The place of the first column of a name, or how many columns there are.
 fn place_named(columns: &[Column], name: &Words) -> usize
@@ -107,7 +111,38 @@ impl<'s, 'a> Mapper<&'a Row, Vec<Row>> for Splitting<'s> {
 }
 
 /// One row for each piece of a text column of each row.
-pub(crate) fn flat_map<'a, G: Gate>(
+pub(crate) fn flat_map<'a, G: Gate + Sync, T: Threads + Wait + Sync>(
+    rt: &T,
+    alloc: Global,
+    name: &Words,
+    separator: &Words,
+    schema: &Schema,
+    rows: &[&'a Row],
+    plan: &Plan<'_, G>,
+) -> Result<Ran<'a>, StepStop>
+    requires some { separator.now ≢ [] }
+    requires small { length rows.now ≤ 4194304 }
+    requires level { (1 ≤ plan.now.level) × (plan.now.level ≤ 64) }
+    requires workers { (1 ≤ plan.now.workers) × (plan.now.workers ≤ 64) }
+    ensures { Gives (at_most (flat_map (split_at_place (place_named schema.now.columns.items name.now) separator.now) (pointed rows.now))) (IsRun no_test untested (pointed rows.now) (planned plan.now.workers plan.now.level)) result }
+{
+    let splitting = Splitting {
+        at: place_named(&schema.columns, name),
+        separator,
+    };
+    let source = CopySplitter::new(rows);
+    let (all, audit) = par_transform::flat_map::<
+        Source<'_, 'a>,
+        ArrayCombiner<Row>,
+        G,
+        Splitting<'_>,
+        T,
+    >(rt, alloc, source, &splitting, plan)?;
+    Ok((Stepped::Made(all), Some(audit)))
+}
+
+/// `flat_map` on the caller's thread alone. It takes neither threads nor waits.
+pub(crate) fn flat_map_alone<'a, G: Gate>(
     alloc: Global,
     name: &Words,
     separator: &Words,
@@ -119,15 +154,18 @@ pub(crate) fn flat_map<'a, G: Gate>(
     requires some { separator.now ≢ [] }
     requires small { length rows.now ≤ 4194304 }
     requires level { (1 ≤ level) × (level ≤ 64) }
-    ensures { Gives (at_most (flat_map (split_at_place (place_named schema.now.columns.items name.now) separator.now) (pointed rows.now))) (IsRun no_test untested (pointed rows.now) level) result }
+    ensures { Gives (at_most (flat_map (split_at_place (place_named schema.now.columns.items name.now) separator.now) (pointed rows.now))) (IsRun no_test untested (pointed rows.now) (alone level)) result }
 {
     let splitting = Splitting {
         at: place_named(&schema.columns, name),
         separator,
     };
     let source = CopySplitter::new(rows);
-    let (all, audit) = flat_map_alone::<Source<'_, 'a>, ArrayCombiner<Row>, G, Splitting<'_>>(
-        alloc, source, &splitting, level, gate,
-    )?;
+    let (all, audit) = par_transform::flat_map_alone::<
+        Source<'_, 'a>,
+        ArrayCombiner<Row>,
+        G,
+        Splitting<'_>,
+    >(alloc, source, &splitting, level, gate)?;
     Ok((Stepped::Made(all), Some(audit)))
 }

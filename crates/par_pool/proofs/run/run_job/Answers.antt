@@ -3,11 +3,11 @@ use Rattle.std.proofs.lemmas.List.Elements.{All-contains}
 use Rattle.par_task.specs.Marking.{marks_of}
 use Rattle.par_task.specs.Audits.{IsAudit, threshold_of}
 use Rattle.par_pool.specs.Lists.{IsList}
-use Rattle.par_pool.proofs.Tiling.{audit_of, by_more, ok_map}
+use Rattle.par_pool.proofs.Tiling.{audit_of, by_more}
 use Rattle.par_pool.proofs.run.run_job.Goals as goal
 
 pub returns-then-workers-lt2-clause-audit : goal.returns-then-workers-lt2-clause-audit
-returns-then-workers-lt2-clause-audit g c = ok_map c.run.result _ _ (λ a h. by_more _ _ _ _ _ a.1 c.requires.workers.0 h) c.run.ensures.audit
+returns-then-workers-lt2-clause-audit g c = by_more _ _ _ _ _ c.run_alone.result c.requires.workers.0 c.run_alone.ensures.audit c.run_alone.ensures.chain c.run_alone.ensures.tested
 
 pub returns-then-listed-clause-audit : goal.returns-then-listed-clause-audit
 returns-then-listed-clause-audit g c =
@@ -32,4 +32,4 @@ returns-then-listed-clause-audit g c =
     })
 
 pub returns-clause-audit : goal.returns-clause-audit
-returns-clause-audit g c = ok_map c.run-2.result _ _ (λ a h. by_more _ _ _ _ _ a.1 c.requires.workers.0 h) c.run-2.ensures.audit
+returns-clause-audit g c = by_more _ _ _ _ _ c.run_alone-2.result c.requires.workers.0 c.run_alone-2.ensures.audit c.run_alone-2.ensures.chain c.run_alone-2.ensures.tested

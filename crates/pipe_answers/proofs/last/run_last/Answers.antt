@@ -2,6 +2,7 @@ use Rattle.pipe_steps.specs.Said.{last_view}
 use Rattle.pipe_stages.specs.Rows.{pointed}
 use Rattle.pipe_answers.specs.Lasts.{IsAnswerText, IsLastAudit, last_fault}
 use Rattle.pipe_answers.proofs.Given.{given_audit, given_fault, given_stop, given_text}
+use Rattle.par_pool.specs.Plans.{planned}
 use Rattle.pipe_answers.proofs.last.run_last.Goals as goal
 
 pub returns : goal.returns
@@ -11,7 +12,7 @@ returns g c =
     let rows = pointed c.args.rows.now in
     let fault = last_fault cs step rows in
     let is_text = IsAnswerText cs step rows in
-    let is_audit = IsLastAudit cs step rows c.args.level in
+    let is_audit = IsLastAudit cs step rows (planned c.args.plan.now.workers c.args.plan.now.level) in
     record {
       fault = given_fault fault is_text is_audit c.call.result c.call.ensures;
       answer = given_text fault is_text is_audit c.call.result c.call.ensures;

@@ -4,6 +4,7 @@ use Rattle.pipe_run.specs.Rests.{IsRunOf, Notes}
 use Rattle.pipe_run.specs.Runs.{whole_text}
 use Rattle.std.proofs.Common.{[], Ok, subst}
 use Rattle.pipe_run.proofs.Staging.{all_ready, told_stopped, told_text}
+use Rattle.par_pool.specs.Plans.{planned}
 use Rattle.pipe_run.proofs.run.told_text.Goals as goal
 
 pub run_stages-requires-clause-ready : goal.run_stages-requires-clause-ready
@@ -12,10 +13,10 @@ run_stages-requires-clause-ready g c κs within = all_ready (plan_of c.args.pipe
 pub returns-in_err-answer : goal.returns-in_err-answer
 returns-in_err-answer g c =
     let e : c.from_residual-in_err-answer.result ≡ Err c.in_err-answer.field-0.0 = search rules in
-    rw e (told_stopped c.args.level c.args.audit (plan_of c.args.pipeline.now) c.in_ok-rest.rest c.args.rows.items c.in_err-answer.field-0.0 c.in_ok-rest.ensures c.in_err-answer.ensures.stopped)
+    rw e (told_stopped (planned c.args.plan.now.workers c.args.plan.now.level) c.args.audit (plan_of c.args.pipeline.now) c.in_ok-rest.rest c.args.rows.items c.in_err-answer.field-0.0 c.in_ok-rest.ensures c.in_err-answer.ensures.stopped)
 
 pub returns : goal.returns
 returns g c =
-    let told = subst (λ x. Notes x c.run_stages.new.audits.items (λ told. IsRunOf c.args.level c.in_ok-rest.rest c.args.rows.items (Ok (c.in_ok-answer.answer.items, told)))) c.new-audits.ensures.items c.in_ok-answer.ensures.text in
-    told_text c.args.level c.args.audit (plan_of c.args.pipeline.now) c.in_ok-rest.rest c.args.rows.items c.in_ok-answer.answer.items c.add_audits.new.answer.items c.run_stages.new.audits.items c.in_ok-rest.ensures told
+    let told = subst (λ x. Notes x c.run_stages.new.audits.items (λ told. IsRunOf (planned c.args.plan.now.workers c.args.plan.now.level) c.in_ok-rest.rest c.args.rows.items (Ok (c.in_ok-answer.answer.items, told)))) c.new-audits.ensures.items c.in_ok-answer.ensures.text in
+    told_text (planned c.args.plan.now.workers c.args.plan.now.level) c.args.audit (plan_of c.args.pipeline.now) c.in_ok-rest.rest c.args.rows.items c.in_ok-answer.answer.items c.add_audits.new.answer.items c.run_stages.new.audits.items c.in_ok-rest.ensures told
     (c.in_ok-add_audits.ensures ∙ ap (λ x. whole_text c.args.audit (c.in_ok-answer.answer.items, x)) c.deref.ensures.value)

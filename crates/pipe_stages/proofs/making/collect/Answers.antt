@@ -9,6 +9,7 @@ use Rattle.pipe_stages.specs.Rows.{pointed}
 use Rattle.pipe_stages.specs.Runs.{Gives}
 use Rattle.pipe_stages.specs.Stages.{filtered, made_by, then_made}
 use Rattle.pipe_stages.proofs.Made.{chosen_gives}
+use Rattle.par_pool.specs.Plans.{planned}
 use Rattle.pipe_stages.proofs.making.collect.Goals as goal
 
 pub returns : goal.returns
@@ -17,5 +18,5 @@ returns g c =
     let verdict = verdict_on columns (view c.args.e.now) in
     let f = made_by columns (map named_view c.args.fields.now) in
     let rows = pointed c.args.rows.now in
-    subst (Gives (then_made f (filtered columns (view c.args.e.now) rows)) (IsRun no_flag verdict rows c.args.level)) (sym c.collected.ensures)
-    (chosen_gives (row_on c.in_ok-maker.maker) f _ rows c.args.level c.in_ok-kept.audit c.in_ok-maker.ensures c.new-source.ensures.list (condition_on c.in_ok-test.test) verdict c.in_ok-kept.kept c.in_ok-test.ensures c.in_ok-kept.ensures.answer c.in_ok-kept.ensures.audit)
+    subst (Gives (then_made f (filtered columns (view c.args.e.now) rows)) (IsRun no_flag verdict rows (planned c.args.plan.now.workers c.args.plan.now.level))) (sym c.collected.ensures)
+    (chosen_gives (row_on c.in_ok-maker.maker) f _ rows (planned c.args.plan.now.workers c.args.plan.now.level) c.in_ok-kept.audit c.in_ok-maker.ensures c.new-source.ensures.list (condition_on c.in_ok-test.test) verdict c.in_ok-kept.kept c.in_ok-test.ensures c.in_ok-kept.ensures.answer c.in_ok-kept.ensures.audit)

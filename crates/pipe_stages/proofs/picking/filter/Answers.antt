@@ -10,6 +10,7 @@ use Rattle.pipe_stages.specs.Rows.{pointed}
 use Rattle.pipe_stages.specs.Runs.{Gives}
 use Rattle.pipe_stages.specs.Stages.{filtered}
 use Rattle.pipe_stages.proofs.Picked.{chosen}
+use Rattle.par_pool.specs.Plans.{planned}
 use Rattle.pipe_stages.proofs.picking.filter.Goals as goal
 
 pub returns : goal.returns
@@ -17,6 +18,6 @@ returns g c =
     let columns = c.args.schema.now.columns.items in
     let verdict = verdict_on columns (view c.args.e.now) in
     let rows = pointed c.args.rows.now in
-    subst (Gives (filtered columns (view c.args.e.now) rows) (IsRun no_flag verdict rows c.args.level)) (sym c.picked.ensures)
-    (chosen (λ v r. fault_of no_flag (map v r)) (λ v r. filter (λ x. passes (v x)) r) no_flag (λ v. v) c.args.level c.in_ok-kept.kept c.in_ok-kept.audit
+    subst (Gives (filtered columns (view c.args.e.now) rows) (IsRun no_flag verdict rows (planned c.args.plan.now.workers c.args.plan.now.level))) (sym c.picked.ensures)
+    (chosen (λ v r. fault_of no_flag (map v r)) (λ v r. filter (λ x. passes (v x)) r) no_flag (λ v. v) (planned c.args.plan.now.workers c.args.plan.now.level) c.in_ok-kept.kept c.in_ok-kept.audit
     (condition_on c.in_ok-test.test) verdict _ rows c.in_ok-test.ensures c.new-source.ensures.list c.in_ok-kept.ensures.answer c.in_ok-kept.ensures.audit)

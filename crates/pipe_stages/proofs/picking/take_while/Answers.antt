@@ -11,6 +11,7 @@ use Rattle.pipe_stages.specs.Rows.{pointed}
 use Rattle.pipe_stages.specs.Runs.{Gives}
 use Rattle.pipe_stages.specs.Stages.{denied, taken_while}
 use Rattle.pipe_stages.proofs.Picked.{chosen}
+use Rattle.par_pool.specs.Plans.{planned}
 use Rattle.pipe_stages.proofs.picking.take_while.Goals as goal
 
 pub returns : goal.returns
@@ -18,6 +19,6 @@ returns g c =
     let columns = c.args.schema.now.columns.items in
     let verdict = verdict_on columns (view c.args.e.now) in
     let rows = pointed c.args.rows.now in
-    subst (Gives (taken_while columns (view c.args.e.now) rows) (IsRun low_flag (denied columns (view c.args.e.now)) rows c.args.level)) (sym c.picked.ensures)
-    (chosen (λ v r. fault_of low_flag (map (λ x. contrary (v x)) r)) (λ v r. take_while (λ x. passes (v x)) r) low_flag (λ v. (λ x. contrary (v x))) c.args.level c.in_ok-kept.kept c.in_ok-kept.audit
+    subst (Gives (taken_while columns (view c.args.e.now) rows) (IsRun low_flag (denied columns (view c.args.e.now)) rows (planned c.args.plan.now.workers c.args.plan.now.level))) (sym c.picked.ensures)
+    (chosen (λ v r. fault_of low_flag (map (λ x. contrary (v x)) r)) (λ v r. take_while (λ x. passes (v x)) r) low_flag (λ v. (λ x. contrary (v x))) (planned c.args.plan.now.workers c.args.plan.now.level) c.in_ok-kept.kept c.in_ok-kept.audit
     (condition_on c.in_ok-test.test) verdict _ rows c.in_ok-test.ensures c.new-source.ensures.list c.in_ok-kept.ensures.answer c.in_ok-kept.ensures.audit)

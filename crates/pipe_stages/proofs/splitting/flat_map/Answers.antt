@@ -10,6 +10,7 @@ use Rattle.pipe_stages.specs.Stages.{at_most, split_at_place}
 use Rattle.pipe_stages.specs.Stops.{of_flat}
 use Rattle.pipe_stages.specs.declared.stepped.Stepped.TheVariants.{Made}
 use Rattle.pipe_stages.proofs.Flat.{flat_gives, flat_stops, handed_on}
+use Rattle.par_pool.specs.Plans.{planned}
 use Rattle.pipe_stages.proofs.splitting.flat_map.Goals as goal
 
 pub returns : goal.returns
@@ -17,14 +18,14 @@ returns g c =
     let sep = c.args.separator.now in
     let rows = pointed c.args.rows.now in
     let named : c.place_named.result ≡ place_named c.args.schema.now.columns.items c.args.name.now = c.place_named.ensures.place ∙ ap (λ cs. place_named cs c.args.name.now) c.deref.ensures.value in
-    subst (λ at. Gives (at_most (flat_map (split_at_place at sep) rows)) (IsRun no_test untested rows c.args.level) (Ok (Made c.in_ok-all.all, Some c.in_ok-all.audit))) named
-    (flat_gives (split_at_place c.place_named.result sep) _ rows c.args.level c.in_ok-all.all c.in_ok-all.audit c.new-source.ensures.list c.in_ok-all.ensures.answer c.in_ok-all.ensures.few c.in_ok-all.ensures.audit)
+    subst (λ at. Gives (at_most (flat_map (split_at_place at sep) rows)) (IsRun no_test untested rows (planned c.args.plan.now.workers c.args.plan.now.level)) (Ok (Made c.in_ok-all.all, Some c.in_ok-all.audit))) named
+    (flat_gives (split_at_place c.place_named.result sep) _ rows (planned c.args.plan.now.workers c.args.plan.now.level) c.in_ok-all.all c.in_ok-all.audit c.new-source.ensures.list c.in_ok-all.ensures.answer c.in_ok-all.ensures.few c.in_ok-all.ensures.audit)
 
 pub returns-in_err-all : goal.returns-in_err-all
 returns-in_err-all g c =
     let sep = c.args.separator.now in
     let rows = pointed c.args.rows.now in
     let named : c.place_named.result ≡ place_named c.args.schema.now.columns.items c.args.name.now = c.place_named.ensures.place ∙ ap (λ cs. place_named cs c.args.name.now) c.deref.ensures.value in
-    subst (λ at. Gives (at_most (flat_map (split_at_place at sep) rows)) (IsRun no_test untested rows c.args.level) c.from_residual.result) named
+    subst (λ at. Gives (at_most (flat_map (split_at_place at sep) rows)) (IsRun no_test untested rows (planned c.args.plan.now.workers c.args.plan.now.level)) c.from_residual.result) named
     (handed_on _ _ c.from_residual.result (of_flat c.in_err-all.field-0.0) c.from_residual.ensures.1
     (flat_stops (split_at_place c.place_named.result sep) _ rows c.in_err-all.field-0.0 c.new-source.ensures.list c.in_err-all.ensures.stop))

@@ -1,0 +1,6 @@
+use Rattle.std.specs.Int.{int_max}
+use Rattle.par_access.proofs.Reducing.{reduced_itself}
+use Rattle.par_access.proofs.folds.max_alone.Goals as goal
+
+pub returns-clause-answer : goal.returns-clause-answer
+returns-clause-answer g c = reduced_itself int_max (g.F.Mapper.mapped c.args.of.now) (g.S.Splitter.items c.args.source) c.fold_alone.result c.fold_alone.ensures.answer

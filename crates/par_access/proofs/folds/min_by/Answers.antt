@@ -1,6 +1,0 @@
-use Rattle.std.specs.Int.{int_min}
-use Rattle.par_access.proofs.Reducing.{reduced_itself}
-use Rattle.par_access.proofs.folds.min_by.Goals as goal
-
-pub returns-clause-answer : goal.returns-clause-answer
-returns-clause-answer g c = reduced_itself int_min (g.F.Mapper.mapped c.args.of.now) (g.S.Splitter.items c.args.source) c.fold_by.result c.fold_by.ensures.answer

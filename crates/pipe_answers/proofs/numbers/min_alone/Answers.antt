@@ -1,0 +1,19 @@
+use Rattle.std.proofs.Common.{◌≡◌, ◌∙◌, ap}
+use Rattle.std.proofs.lemmas.Result.{err_from_is_err_and}
+use Rattle.std.specs.Int.{int_min}
+use Rattle.pipe_stages.specs.Rows.{pointed}
+use Rattle.pipe_answers.specs.Texts.{number_or_none}
+use Rattle.pipe_answers.proofs.Presents.{present_fine, present_stop, present_value}
+use Rattle.pipe_answers.proofs.numbers.min_alone.Goals as goal
+
+pub returns-in_err-least : goal.returns-in_err-least
+returns-in_err-least g c =
+    let p = err_from_is_err_and c.from_residual-in_err-least.result c.from_residual-in_err-least.ensures.1 in
+    rw (p.1, p.2) (present_stop _ _ c.in_ok-number.ensures (pointed c.args.rows.now) _ c.in_err-least.ensures.stop)
+
+pub returns : goal.returns
+returns g c = (
+  present_fine _ _ c.in_ok-number.ensures (pointed c.args.rows.now) c.in_ok-least.ensures.fine,
+  c.in_ok-number_or_none.ensures ∙ ap number_or_none (present_value _ _ c.in_ok-number.ensures (pointed c.args.rows.now) int_min c.in_ok-least.least c.in_ok-least.ensures.value),
+  c.in_ok-least.ensures.audit,
+)
