@@ -122,13 +122,34 @@ fn whole(n: u32) -> Ticket {
     }
 }
 
-// Hires a worker for each of the run's places, and all work until the root is done: what it gives, and the lists of leaves.
-fn work_all<'r, 'a, J: Job + Sync, G: Gate + Sync, K: Market + Sync, R: Threads + Wait + Sync>(
+// A worker for each of the places, the caller's first.
+fn hire_crew<J: Job, G, K: Market>(
+    run: &Run<'_, '_, '_, J, G, K>,
+    root: &mut BoardSeat<Tracked<J>>,
+    signal: &mut SignalSeat,
+    mut places: Vec<K::Seat>,
+) -> Result<(Hand<J, K::Seat>, Vec<Hand<J, K::Seat>>), Memory>
+    requires root { root.old.of ≡ run.now.board.now.of }
+    requires signal { signal.old.of ≡ run.now.signals.now }
+    requires places { (1 ≤ vec_len places) × (vec_len places ≤ 64) × All (K.is_of run.now.market.now) places.items }
+    ensures first { IfOk result (λ h. IsResting J.kind (marks_of J.kind (J.verdicts run.now.board.now.job.job.value)) run.now.board.now.of run.now.signals.now h.0.worker.number h.0.worker.seat h.0.worker.signal h.0.worker.leaves.items × K.is_of run.now.market.now h.0.place) }
+    ensures others { IfOk result (λ h. All (λ w. IsResting J.kind (marks_of J.kind (J.verdicts run.now.board.now.job.job.value)) run.now.board.now.of run.now.signals.now w.worker.number w.worker.seat w.worker.signal w.worker.leaves.items × K.is_of run.now.market.now w.place) h.1.items) }
+    ensures root { (root.new.of ≡ root.old.of) × (root.new.owns ≡ root.old.owns) × (root.new.holds ≡ root.old.holds) }
+{
+    let (alloc, signals, board) = (run.alloc, run.signals, run.board);
+    let place = places.remove(0);
+    let first = hire(alloc, signals, board, root, signal, place, 0)?;
+    let others = hire_all(alloc, signals, board, root, signal, run.market, places)?;
+    Ok((first, others))
+}
+
+// The workers of a run, one for each of the places, work until the root is done: what it gives, and the lists of leaves.
+fn work_all<J: Job + Sync, G: Gate + Sync, K: Market + Sync, R: Threads + Wait + Sync>(
     rt: &R,
-    run: &Run<'r, 'a, J, G, K>,
+    run: &Run<'_, '_, '_, J, G, K>,
     mut root: BoardSeat<Tracked<J>>,
     mut signal: SignalSeat,
-    mut places: Vec<K::Seat>,
+    places: Vec<K::Seat>,
 ) -> Result<(Bundle<J::Part>, Vec<Vec<Leaf>>), Memory>
 where
     J::Split: Send,
@@ -145,25 +166,7 @@ where
     ensures bundle { IfOk result (λ r. IsBundle J.kind (marks_of J.kind (J.verdicts run.now.job.now)) (J.good run.now.job.now) (J.merges run.now.job.now) J.Part.shown 0 (length (J.source run.now.job.now)) r.0) }
     ensures lists { IfOk result (λ r. All (λ l. IsList J.kind (marks_of J.kind (J.verdicts run.now.job.now)) l.items) r.1.items) }
 {
-    let place = places.remove(0);
-    let mut first = hire(
-        run.alloc,
-        run.signals,
-        run.board,
-        &mut root,
-        &mut signal,
-        place,
-        0,
-    )?;
-    let others = hire_all(
-        run.alloc,
-        run.signals,
-        run.board,
-        &mut root,
-        &mut signal,
-        run.market,
-        places,
-    )?;
+    let (mut first, others) = hire_crew(run, &mut root, &mut signal, places)?;
     let _ = run
         .market
         .post(rt, &mut first.place, whole(run.board.count()));

@@ -24,27 +24,27 @@ pub(crate) type Work<'r, J, G> = WorkOf<'r, J, <J as Job>::Pred, G>;
 ///
 /// The struct is generic in all its parts, so that the check finds where threads may share it.
 #[derive(Drop)]
-pub(crate) struct RunOf<'r, J, P, B, G, M> {
+pub(crate) struct RunOf<'w, 'r, J, P, B, G, M> {
     pub(crate) alloc: Global,
-    pub(crate) job: &'r J,
-    pub(crate) inner: &'r P,
+    pub(crate) job: &'w J,
+    pub(crate) inner: &'w P,
     pub(crate) signals: &'r Signals,
-    pub(crate) gate: &'r G,
+    pub(crate) gate: &'w G,
     pub(crate) board: &'r B,
     pub(crate) market: &'r M,
     pub(crate) least: u32,
 }
 
-impl<'r, J, P, B, G, M> RunOf<'r, J, P, B, G, M> {
+impl<'w, 'r, J, P, B, G, M> RunOf<'w, 'r, J, P, B, G, M> {
     /// The run of a job over these flags, this board and this market.
     pub(crate) fn over(
-        work: &WorkOf<'r, J, P, G>,
+        work: &WorkOf<'w, J, P, G>,
         signals: &'r Signals,
         board: &'r B,
         market: &'r M,
-    ) -> RunOf<'r, J, P, B, G, M>
-        ensures work { (result.job ≡ work.now.job) × (result.inner ≡ work.now.inner) × (result.least ≡ work.now.least) }
-        ensures places { (result.signals ≡ signals) × (result.board ≡ board) × (result.market ≡ market) }
+    ) -> RunOf<'w, 'r, J, P, B, G, M>
+        ensures work { (result.job.now ≡ work.now.job.now) × (result.inner.now ≡ work.now.inner.now) × (result.least ≡ work.now.least) }
+        ensures places { (result.signals.now ≡ signals.now) × (result.board.now ≡ board.now) × (result.market.now ≡ market.now) }
     {
         RunOf {
             alloc: work.alloc,
@@ -59,4 +59,12 @@ impl<'r, J, P, B, G, M> RunOf<'r, J, P, B, G, M> {
     }
 }
 
-pub(crate) type Run<'r, 'a, J, G, M> = RunOf<'r, J, <J as Job>::Pred, Board<'a, Tracked<J>>, G, M>;
+pub(crate) type Run<'w, 'r, 'a, J, G, M> = RunOf<
+    'w,
+    'r,
+    J,
+    <J as Job>::Pred,
+    Board<'a, Tracked<J>>,
+    G,
+    M,
+>;

@@ -3,6 +3,7 @@ ghost use Rattle.std.specs.Prelude.{◌≡◌, ◌<◌, ◌≤◌, length, All, 
 use super::*;
 use crate::bundle::Bundle;
 use crate::check::is_tiling;
+use crate::run::crew;
 use crate::runs::run_on;
 use crate::shared::WorkOf;
 use par_edge::{Gate, OpenGate};
@@ -425,4 +426,14 @@ fn most_workers_on_one_item_and_on_none(rt: HostRuntime) -> Result<(), Fail> {
     assert!(rt; most_workers_agree(&rt, rt.alloc(), 0)?);
     assert!(rt; most_workers_agree(&rt, rt.alloc(), 1)?);
     Ok(())
+}
+
+#[test]
+fn no_more_workers_than_leaves(rt: HostRuntime) {
+    assert_eq!(rt; crew(0, 1, 64), 1);
+    assert_eq!(rt; crew(7, 7, 64), 1);
+    assert_eq!(rt; crew(100, 99, 64), 2);
+    assert_eq!(rt; crew(3, 1, 64), 3);
+    assert_eq!(rt; crew(100, 2, 64), 64);
+    assert_eq!(rt; crew(1_000, 1, 4), 4);
 }
