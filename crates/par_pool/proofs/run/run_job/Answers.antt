@@ -1,4 +1,4 @@
-use Rattle.std.proofs.Common.{arith, ◌≡◌, ◌∙◌, ℕ, ap, sym, subst, refl, length}
+use Rattle.std.proofs.Common.{arith, ◌≡◌, ◌∙◌, ℕ, ap, subst, refl, length}
 use Rattle.std.proofs.lemmas.List.Elements.{All-contains}
 use Rattle.par_task.specs.Marking.{marks_of}
 use Rattle.par_task.specs.Audits.{IsAudit, threshold_of}

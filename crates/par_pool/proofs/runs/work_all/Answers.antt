@@ -1,4 +1,4 @@
-use Rattle.std.proofs.Common.{◌≡◌, List, get_or, ◌∙◌, ap}
+use Rattle.std.proofs.Common.{List, get_or, ◌∙◌, ap}
 use Rattle.par_board.specs.Seen.{Owned, not_owned}
 use Rattle.par_pool.proofs.runs.work_all.Goals as goal
 
