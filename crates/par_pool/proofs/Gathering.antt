@@ -1,10 +1,10 @@
 -- The tails of a chain, merged one by one, the nearest first.
-use Rattle.std.proofs.Common.{◌≡◌, ◌≢◌, ℕ, zero, suc, ◌+◌, ◌*◌, ◌/◌, ◌^◌, ◌≤◌, ◌<◌, ◌⊎◌, inl, inr, ⊎_elim, List, [], ◌∷◌, ◌++◌, length, map, get_or, sym, refl, ap, ◌∙◌, subst, arith, Bool, true, false}
+use Rattle.std.proofs.Common.{◌≡◌, ◌≢◌, ℕ, suc, ◌+◌, ◌*◌, ◌/◌, ◌^◌, ◌≤◌, ◌<◌, ◌⊎◌, inl, inr, ⊎_elim, List, [], ◌∷◌, length, map, get_or, sym, ap, ◌∙◌, subst, arith, true, false}
 use mathlib.Core.Logic.{dite}
 use native.Mathlib.Decide.{ℕ_discrete}
 use Rattle.par_board.specs.declared.answers.NodeState.{NodeState}
 use Rattle.par_board.specs.Tree.{below, TreeLaws}
-use Rattle.par_board.specs.Seen.{Owned, Held, not_held, not_owned, owned_merged, Sight, owns_at, holds_at}
+use Rattle.par_board.specs.Seen.{Owned, Held, not_held, not_owned, Sight, owns_at, holds_at}
 use Rattle.par_board.specs.Calls.{HasOpen, IsClaimed, IsElsewhere, IsFinished, HoldsNothing, OpensNothing, HoldsSame}
 use Rattle.par_task.specs.Alone.{tail_nodes}
 use Rattle.par_task.specs.Chains.{Follows}

@@ -1,5 +1,5 @@
 -- The tails of a chain, offered one by one, the nearest first.
-use Rattle.std.proofs.Common.{◌≡◌, ◌≢◌, ℕ, zero, suc, ◌+◌, ◌*◌, ◌/◌, ◌^◌, ◌≤◌, ◌<◌, ◌⊎◌, inl, inr, ⊎_elim, List, [], ◌∷◌, ◌++◌, length, map, take, drop, sym, refl, ap, ◌∙◌, subst, arith, Bool, true, false, length-append, append_assoc}
+use Rattle.std.proofs.Common.{◌≡◌, ℕ, suc, ◌+◌, ◌*◌, ◌/◌, ◌^◌, ◌<◌, ◌⊎◌, inl, inr, ⊎_elim, List, [], ◌∷◌, ◌++◌, length, sym, refl, ◌∙◌, subst, arith, true, false, append_assoc}
 use Rattle.std.proofs.lemmas.List.{append-nil}
 use mathlib.Core.Logic.{dite}
 use native.Mathlib.Decide.{ℕ_discrete}
@@ -7,7 +7,6 @@ use Rattle.par_board.specs.Tree.{below, TreeLaws}
 use Rattle.par_board.specs.Seen.{Owned, owned_free, Sight, owns_at}
 use Rattle.par_board.specs.Calls.{OwnsTree, HasOpen, IsOffered, HoldsSame}
 use Rattle.par_board.specs.Loads.{IsPiece}
-use Rattle.par_task.specs.Spans.{IsSpan}
 use Rattle.par_pool.specs.Tails.{AreTails, Opens, AreOffered, Pending, IsShut, FreeBelow}
 use Rattle.par_pool.proofs.Spines.{In, not_true, true_or, in_child, in_spine, left_is, left_half, right_half, right_out, up_pos}
 use Rattle.par_pool.proofs.Cutting.{tails_next, piece_next, few_next}

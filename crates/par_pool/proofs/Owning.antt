@@ -1,5 +1,5 @@
 -- One leaf more of a worker.
-use Rattle.std.proofs.Common.{◌≡◌, ℕ, zero, suc, ◌+◌, ◌≤◌, ◌<◌, ◌⊎◌, inl, inr, Bool, true, List, [], ◌∷◌, ◌++◌, length, length-append, refl, ap, sym, ◌∙◌, subst, arith, rules}
+use Rattle.std.proofs.Common.{◌≡◌, ℕ, ◌+◌, ◌⊎◌, inl, inr, Bool, List, [], ◌∷◌, ◌++◌, length, length-append, refl, ap, sym, ◌∙◌, subst, arith}
 use Rattle.std.specs.List.{Contains}
 use Rattle.std.proofs.lemmas.List.Elements.{Contains-push_cases}
 use Rattle.par_signal.specs.Seen.{Seen, Flags}
@@ -8,7 +8,7 @@ use Rattle.par_signal.specs.declared.abort.Abort.{Abort}
 use Rattle.par_task.specs.Marking.{Kind, low_flag, abort_flag, high_flag, no_flag, no_test}
 use Rattle.par_task.specs.Seats.{IsLater, Heeds, HasFound, IsLeafOf}
 use Rattle.par_task.specs.Alone.{HasTurnsFrom}
-use Rattle.par_task.specs.Audits.{Learns, IsIdle, IsLeafed, Comes, one}
+use Rattle.par_task.specs.Audits.{Learns, IsLeafed, Comes, one}
 use Rattle.par_task.specs.Runs.{IsRun}
 use Rattle.par_task.specs.declared.audit.Leaf.{Leaf}
 use Rattle.par_board.specs.Seen.{Sight}

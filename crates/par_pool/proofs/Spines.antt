@@ -1,5 +1,5 @@
 -- The left spine below a node, and the trees to the right of it.
-use Rattle.std.proofs.Common.{◌≡◌, ◌≢◌, ℕ, zero, suc, ◌+◌, ◌*◌, ◌/◌, ◌^◌, ◌≤◌, ◌<◌, ◌⊎◌, inl, inr, List, length, sym, refl, ap, ◌∙◌, subst, arith, Bool, true, false, true≢false}
+use Rattle.std.proofs.Common.{◌≡◌, ℕ, zero, suc, ◌+◌, ◌*◌, ◌/◌, ◌^◌, ◌≤◌, ◌<◌, ◌⊎◌, inl, inr, length, sym, refl, ap, ◌∙◌, subst, arith, Bool, true, false, true≢false}
 use Rattle.std.proofs.Math.Nat.{pow-suc}
 use Rattle.par_board.specs.Tree.{below, TreeLaws}
 use Rattle.par_task.specs.Alone.{tail_nodes}

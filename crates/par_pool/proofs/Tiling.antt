@@ -1,13 +1,13 @@
 -- What the check of an audit shows.
-use Rattle.std.proofs.Common.{◌≡◌, ◌≢◌, ℕ, zero, suc, ◌+◌, ◌<◌, ◌≤◌, ◌⊎◌, inl, inr, Bool, List, [], ◌∷◌, ◌++◌, Result, Ok, Err, IfOk, length, get_or, set, take, refl, ap, sym, ◌∙◌, subst, arith}
+use Rattle.std.proofs.Common.{◌≡◌, ◌≢◌, ℕ, zero, suc, ◌+◌, ◌<◌, ◌≤◌, inl, inr, Bool, List, [], ◌∷◌, ◌++◌, Result, Ok, Err, IfOk, length, get_or, set, take, refl, ap, sym, ◌∙◌, subst, arith}
 use Rattle.std.specs.List.{All, Contains, AllPairs}
-use Rattle.std.proofs.lemmas.List.{get_or-set_same, get_or-set_other, get_or_default, get_or_read, take_all, take_more}
+use Rattle.std.proofs.lemmas.List.{get_or-set_same, get_or-set_other, get_or_read, take_all}
 use Rattle.std.proofs.lemmas.List.Elements.{All-contains, Contains-get_or, Contains-push_cases, Contains-append_cases}
 use mathlib.Core.Logic.{dite}
 use native.Mathlib.Decide.{ℕ_discrete}
 use Rattle.par_task.specs.Marking.{Kind}
 use Rattle.par_task.specs.Alone.{HasTurnsFrom, IsOneChain, TestsInAll}
-use Rattle.par_task.specs.Audits.{Adjoins, Covers, IsLeafed, Comes, one, both, HasTurns, Tiles, IsAudit, IsIdle, IsLawfulLeaf, Learns, threshold_of}
+use Rattle.par_task.specs.Audits.{Adjoins, Covers, IsLeafed, Comes, one, both, HasTurns, IsAudit, IsIdle, IsLawfulLeaf, threshold_of}
 use Rattle.par_task.specs.Manners.{IsRunBy}
 use Rattle.par_pool.specs.Plans.{planned}
 use Rattle.par_task.specs.declared.audit.Leaf.{Leaf}

@@ -1,6 +1,6 @@
 -- What the run of a node gives: nothing, or a part that is good over the node's span and comes from its leaves.
 use Rattle.std.specs.Prelude.{◌≡◌, ℕ, List, ◌++◌, Bool, Option, Some, None, refl}
-use Rattle.std.proofs.Common.{ap, sym, ◌∙◌}
+use Rattle.std.proofs.Common.{sym, ◌∙◌}
 use Rattle.par_task.specs.Marking.{Kind}
 use Rattle.par_task.specs.Audits.{IsLeafed, Comes, both}
 use Rattle.par_task.specs.declared.audit.Leaf.{Leaf}

@@ -1,5 +1,5 @@
 -- What all workers of a run share.
-use Rattle.std.specs.Prelude.{◌≡◌, ℕ, ◌≤◌, List, length, map, Bool}
+use Rattle.std.specs.Prelude.{◌≡◌, ◌≤◌, List, length, map, Bool}
 use Rattle.par_laws.specs.declared.test.Verdict.{Verdict}
 use Rattle.par_task.specs.Marking.{Kind, marks_of}
 

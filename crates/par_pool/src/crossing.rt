@@ -41,9 +41,9 @@ where
 }
 
 /// Threads may share a run where they may share its job, its test and its gate, and the splitters and parts may be sent.
-pub(crate) fn run_crosses<'t, 'r, 'a, J: Job + Sync, G: Sync>(
-    run: &'t Run<'r, 'a, J, G, DequeMarket>,
-) -> &'t Run<'r, 'a, J, G, DequeMarket>
+pub(crate) fn run_crosses<'t, 'w, 'r, 'a, J: Job + Sync, G: Sync>(
+    run: &'t Run<'w, 'r, 'a, J, G, DequeMarket>,
+) -> &'t Run<'w, 'r, 'a, J, G, DequeMarket>
 where
     J::Split: Send,
     J::Part: Send,

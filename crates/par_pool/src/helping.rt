@@ -16,7 +16,7 @@ use par_splitter::Splitter;
 use par_task::Job;
 use std::sync::Wait;
 
-impl<'r, 'a, J: Job, G: Gate, M> Run<'r, 'a, J, G, M> {
+impl<'w, 'r, 'a, J: Job, G: Gate, M> Run<'w, 'r, 'a, J, G, M> {
     // Whether the root's part is done.
     fn is_over(&self, worker: &mut Worker<J>) -> bool
         requires { IsResting J.kind (marks_of J.kind (J.verdicts self.now.job.now)) self.now.board.now.of self.now.signals.now worker.old.number worker.old.seat worker.old.signal worker.old.leaves.items }
@@ -27,7 +27,7 @@ impl<'r, 'a, J: Job, G: Gate, M> Run<'r, 'a, J, G, M> {
     }
 }
 
-impl<'r, 'a, J: Job, G: Gate, M: Market> Helper<Hand<J, M::Seat>> for Run<'r, 'a, J, G, M> {
+impl<'w, 'r, 'a, J: Job, G: Gate, M: Market> Helper<Hand<J, M::Seat>> for Run<'w, 'r, 'a, J, G, M> {
     ghost fit = { λ r h. IsWorld J.kind (J.source r.job.now) (J.verdicts r.job.now) (J.Pred.verdict r.inner.now) r.signals.now.marks × (r.board.now.job.job.value ≡ r.job.now) × (1 ≤ r.least) × IsResting J.kind (marks_of J.kind (J.verdicts r.job.now)) r.board.now.of r.signals.now h.worker.number h.worker.seat h.worker.signal h.worker.leaves.items × M.is_of r.market.now h.place };
 
     // Serves nodes that it finds through the market, until the root is done. The caller begins with the root.

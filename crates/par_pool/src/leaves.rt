@@ -31,7 +31,7 @@ fn alone(alloc: Global, leaf: Leaf) -> Result<Vec<Leaf>, Memory>
     Ok(leaves)
 }
 
-impl<'r, 'a, J: Job, G: Gate, M> Run<'r, 'a, J, G, M> {
+impl<'w, 'r, 'a, J: Job, G: Gate, M> Run<'w, 'r, 'a, J, G, M> {
     // Says by the signals that memory is wanting.
     fn want(&self, worker: &mut Worker<J>) -> Bundle<J::Part>
         requires { IsWorker J.kind (marks_of J.kind (J.verdicts self.now.job.now)) self.now.board.now.of self.now.signals.now worker.old.number worker.old.seat worker.old.signal worker.old.leaves.items }

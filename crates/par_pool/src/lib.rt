@@ -30,3 +30,6 @@ mod worker;
 
 pub use plan::Plan;
 pub use run::run_job;
+
+#[cfg(test)]
+mod tests;

@@ -10,7 +10,7 @@ use par_splitter::Splitter;
 use par_task::{Job, Tails};
 use std::sync::Wait;
 
-impl<'r, 'a, J: Job, G, M: Market> Run<'r, 'a, J, G, M> {
+impl<'w, 'r, 'a, J: Job, G, M: Market> Run<'w, 'r, 'a, J, G, M> {
     /// Offers the tails of a chain that was made at k, the nearest first, and posts their tickets. A ticket that is handed
     /// back is not posted: the owner comes to its node by itself.
     pub(crate) fn offer_tails<R: Wait>(

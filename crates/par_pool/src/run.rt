@@ -9,6 +9,7 @@ use crate::bundle::Bundle;
 use crate::check::is_tiling;
 use crate::plan::Plan;
 use crate::runs::run_all;
+use crate::shared::WorkOf;
 use par_edge::Gate;
 use par_laws::{Memory, Shown, Test};
 use par_signal::Marks;
@@ -21,15 +22,37 @@ use std::thread::Threads;
 // As many nodes as a tree of 2,047 has at its lowest level.
 const MOST_LEAVES: u32 = 1024;
 
-// How many workers serve a job of n items: no more than it can have leaves, so one where it has one leaf.
-fn crew(n: u32, t: u32, workers: u32) -> u32
+// How many workers serve a job of n items: no more than it can have leaves. What is cut has more than t items, so no leaf
+// of several has fewer than half of t.
+pub(crate) fn crew(n: u32, t: u32, workers: u32) -> u32
     requires { 1 ≤ workers }
     ensures { (1 ≤ result) × (result ≤ workers) }
 {
     if n <= t {
         1
     } else {
-        workers.min(n).min(MOST_LEAVES)
+        let least = (t / 2 + t % 2).max(1);
+        workers.min(n / least).clamp(1, MOST_LEAVES)
+    }
+}
+
+// The job as workers run it by the plan, with leaves of `t` items or fewer.
+fn work_of<'r, J, P, G>(
+    alloc: Global,
+    job: &'r J,
+    inner: &'r P,
+    plan: &Plan<'r, G>,
+    t: u32,
+) -> WorkOf<'r, J, P, G>
+    ensures job { (result.job.now ≡ job.now) × (result.inner.now ≡ inner.now) }
+    ensures least { 1 ≤ result.least }
+{
+    WorkOf {
+        alloc,
+        job,
+        inner,
+        gate: plan.gate,
+        least: t.max(1),
     }
 }
 
@@ -74,24 +97,13 @@ where
     if workers < 2 {
         return run_alone(alloc, job, inner, marks, source, plan.level, plan.gate);
     }
-    let spare = source.dup();
-    let (bundle, lists) = run_all(
-        rt,
-        alloc,
-        job,
-        inner,
-        marks,
-        source,
-        plan.gate,
-        workers,
-        t.max(1),
-    )?;
+    let work = work_of(alloc, job, inner, plan, t);
+    let (bundle, lists) = run_all(rt, &work, marks, source.dup(), workers)?;
     let Bundle::Whole(part, leaves) = bundle else {
         return Err(Memory);
     };
-    let listed = is_tiling(alloc, &leaves, &lists, n, t, plan.workers)?;
-    if listed {
+    if is_tiling(alloc, &leaves, &lists, n, t, plan.workers)? {
         return Ok((part, Audit::of(leaves)));
     }
-    run_alone(alloc, job, inner, marks, spare, plan.level, plan.gate)
+    run_alone(alloc, job, inner, marks, source, plan.level, plan.gate)
 }

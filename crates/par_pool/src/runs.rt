@@ -1,20 +1,21 @@
 //! One run of a job by several workers.
-ghost use Rattle.std.specs.Prelude.{◌≡◌, ◌<◌, ◌≤◌, [], length, map, IfOk, All, vec_len};
+ghost use Rattle.std.specs.Prelude.{◌≡◌, ℕ, ◌<◌, ◌≤◌, [], length, map, IfOk, All, vec_len};
 ghost use Rattle.par_task.specs.Marking.{marks_of};
-ghost use Rattle.par_board.specs.Calls.{HoldsNothing, OwnsTree};
+ghost use Rattle.par_board.specs.Calls.{HasOpen, HoldsNothing, OwnsTree};
 ghost use Rattle.par_pool.specs.Bundles.{IsBundle};
 ghost use Rattle.par_pool.specs.Lists.{IsList};
 ghost use Rattle.par_pool.specs.Own.{IsOwn, IsResting};
+ghost use Rattle.par_pool.specs.World.{IsWorld};
 
 use crate::bundle::Bundle;
 use crate::crew::help_all;
-use crate::shared::{Run, RunOf};
+use crate::shared::{Run, RunOf, Work};
 use crate::tracked::Tracked;
 use crate::worker::{Hand, HandOf, WorkerOf};
 use par_board::{Board, BoardSeat};
 use par_edge::Gate;
 use par_laws::{Memory, Shown, Test};
-use par_market::{DequeMarket, DequeSeat, Market, Ticket};
+use par_market::{DequeMarket, Market, Ticket};
 use par_signal::{Marks, SignalSeat, Signals};
 use par_splitter::Splitter;
 use par_task::{Job, Leaf};
@@ -112,69 +113,133 @@ fn leaves_of<J: Job, P: Drop>(_job: &J, hand: Hand<J, P>) -> Vec<Leaf>
     leaves
 }
 
-/// Runs the job on so many workers, 2 to 64: what the root gives, and the leaves of each worker by turn, by its number.
-pub(crate) fn run_all<J: Job + Sync, M: Marks, G: Gate + Sync, R: Threads + Wait + Sync>(
+// The ticket of the root, over n items.
+fn whole(n: u32) -> Ticket {
+    Ticket {
+        node: 1,
+        lo: 0,
+        hi: n,
+    }
+}
+
+// A worker for each of the places, the caller's first.
+fn hire_crew<J: Job, G, K: Market>(
+    run: &Run<'_, '_, '_, J, G, K>,
+    root: &mut BoardSeat<Tracked<J>>,
+    signal: &mut SignalSeat,
+    mut places: Vec<K::Seat>,
+) -> Result<(Hand<J, K::Seat>, Vec<Hand<J, K::Seat>>), Memory>
+    requires root { root.old.of ≡ run.now.board.now.of }
+    requires signal { signal.old.of ≡ run.now.signals.now }
+    requires places { (1 ≤ vec_len places) × (vec_len places ≤ 64) × All (K.is_of run.now.market.now) places.items }
+    ensures first { IfOk result (λ h. IsResting J.kind (marks_of J.kind (J.verdicts run.now.board.now.job.job.value)) run.now.board.now.of run.now.signals.now h.0.worker.number h.0.worker.seat h.0.worker.signal h.0.worker.leaves.items × K.is_of run.now.market.now h.0.place) }
+    ensures others { IfOk result (λ h. All (λ w. IsResting J.kind (marks_of J.kind (J.verdicts run.now.board.now.job.job.value)) run.now.board.now.of run.now.signals.now w.worker.number w.worker.seat w.worker.signal w.worker.leaves.items × K.is_of run.now.market.now w.place) h.1.items) }
+    ensures root { (root.new.of ≡ root.old.of) × (root.new.owns ≡ root.old.owns) × (root.new.holds ≡ root.old.holds) }
+{
+    let (alloc, signals, board) = (run.alloc, run.signals, run.board);
+    let place = places.remove(0);
+    let first = hire(alloc, signals, board, root, signal, place, 0)?;
+    let others = hire_all(alloc, signals, board, root, signal, run.market, places)?;
+    Ok((first, others))
+}
+
+// The workers of a run, one for each of the places, work until the root is done: what it gives, and the lists of leaves.
+fn work_all<J: Job + Sync, G: Gate + Sync, K: Market + Sync, R: Threads + Wait + Sync>(
     rt: &R,
-    alloc: Global,
-    job: &J,
-    inner: &J::Pred,
+    run: &Run<'_, '_, '_, J, G, K>,
+    mut root: BoardSeat<Tracked<J>>,
+    mut signal: SignalSeat,
+    places: Vec<K::Seat>,
+) -> Result<(Bundle<J::Part>, Vec<Vec<Leaf>>), Memory>
+where
+    J::Split: Send,
+    J::Part: Send,
+    J::Pred: Send + Sync,
+    K::Seat: Send,
+    <J::Split as Splitter>::Item: Send,
+    requires world { IsWorld J.kind (J.source run.now.job.now) (J.verdicts run.now.job.now) (J.Pred.verdict run.now.inner.now) run.now.signals.now.marks }
+    requires tracked { run.now.board.now.job.job.value ≡ run.now.job.now }
+    requires least { 1 ≤ run.now.least }
+    requires root { (root.of ≡ run.now.board.now.of) × HasOpen 1 0 (length (J.source run.now.job.now)) root }
+    requires signal { signal.of ≡ run.now.signals.now }
+    requires places { (1 ≤ vec_len places) × (vec_len places ≤ 64) × All (K.is_of run.now.market.now) places.items }
+    ensures bundle { IfOk result (λ r. IsBundle J.kind (marks_of J.kind (J.verdicts run.now.job.now)) (J.good run.now.job.now) (J.merges run.now.job.now) J.Part.shown 0 (length (J.source run.now.job.now)) r.0) }
+    ensures lists { IfOk result (λ r. All (λ l. IsList J.kind (marks_of J.kind (J.verdicts run.now.job.now)) l.items) r.1.items) }
+{
+    let (mut first, others) = hire_crew(run, &mut root, &mut signal, places)?;
+    let _ = run
+        .market
+        .post(rt, &mut first.place, whole(run.board.count()));
+    let (first, others) = help_all(rt, run.alloc, run, first, others);
+    let bundle = run.wait_for(rt, &mut root, 1);
+    Ok((bundle, lists_of(run.alloc, run.job, first, others)?))
+}
+
+/// Runs the job by workers that meet at this market, one for each of its places, 1 to 64: what the root gives, and the
+/// leaves of each worker by turn, by its number.
+pub(crate) fn run_on<
+    J: Job + Sync,
+    M: Marks,
+    G: Gate + Sync,
+    K: Market + Sync,
+    R: Threads + Wait + Sync,
+>(
+    rt: &R,
+    work: &Work<'_, J, G>,
     marks: &M,
     source: J::Split,
-    gate: &G,
+    market: &K,
+    places: Vec<K::Seat>,
+) -> Result<(Bundle<J::Part>, Vec<Vec<Leaf>>), Memory>
+where
+    J::Split: Send,
+    J::Part: Send,
+    J::Pred: Send + Sync,
+    K::Seat: Send,
+    <J::Split as Splitter>::Item: Send,
+    requires source { (J.Split.lo source ≡ 0) × (J.Split.items source ≡ J.source work.now.job.now) }
+    requires small { length (J.source work.now.job.now) ≤ 4194304 }
+    requires test { map (J.Pred.verdict work.now.inner.now) (J.source work.now.job.now) ≡ J.verdicts work.now.job.now }
+    requires marks { M.marks marks.now ≡ marks_of J.kind (J.verdicts work.now.job.now) }
+    requires least { 1 ≤ work.now.least }
+    requires places { (1 ≤ vec_len places) × (vec_len places ≤ 64) × All (K.is_of market.now) places.items }
+    ensures bundle { IfOk result (λ r. IsBundle J.kind (marks_of J.kind (J.verdicts work.now.job.now)) (J.good work.now.job.now) (J.merges work.now.job.now) J.Part.shown 0 (length (J.source work.now.job.now)) r.0) }
+    ensures lists { IfOk result (λ r. All (λ l. IsList J.kind (marks_of J.kind (J.verdicts work.now.job.now)) l.items) r.1.items) }
+{
+    let n = source.remaining();
+    let (signals, signal) = Signals::open(work.alloc, marks, n)?;
+    let tracked = Tracked {
+        job: Snapshot::of(work.job),
+    };
+    let (board, mut root) = Board::open(work.alloc, &tracked, n)?;
+    board.offer(&mut root, 1, source);
+    let run = RunOf::over(work, &signals, &board, market);
+    work_all(rt, &run, root, signal, places)
+}
+
+/// Runs the job on so many workers, 1 to 64, over deques: what the root gives, and the leaves of each worker by turn, by its
+/// number.
+pub(crate) fn run_all<J: Job + Sync, M: Marks, G: Gate + Sync, R: Threads + Wait + Sync>(
+    rt: &R,
+    work: &Work<'_, J, G>,
+    marks: &M,
+    source: J::Split,
     workers: u32,
-    least: u32,
 ) -> Result<(Bundle<J::Part>, Vec<Vec<Leaf>>), Memory>
 where
     J::Split: Send,
     J::Part: Send,
     J::Pred: Send + Sync,
     <J::Split as Splitter>::Item: Send,
-    requires source { (J.Split.lo source ≡ 0) × (J.Split.items source ≡ J.source job.now) }
-    requires small { length (J.source job.now) ≤ 4194304 }
-    requires test { map (J.Pred.verdict inner.now) (J.source job.now) ≡ J.verdicts job.now }
-    requires marks { M.marks marks.now ≡ marks_of J.kind (J.verdicts job.now) }
+    requires source { (J.Split.lo source ≡ 0) × (J.Split.items source ≡ J.source work.now.job.now) }
+    requires small { length (J.source work.now.job.now) ≤ 4194304 }
+    requires test { map (J.Pred.verdict work.now.inner.now) (J.source work.now.job.now) ≡ J.verdicts work.now.job.now }
+    requires marks { M.marks marks.now ≡ marks_of J.kind (J.verdicts work.now.job.now) }
     requires workers { (1 ≤ workers) × (workers ≤ 64) }
-    requires least { 1 ≤ least }
-    ensures bundle { IfOk result (λ r. IsBundle J.kind (marks_of J.kind (J.verdicts job.now)) (J.good job.now) (J.merges job.now) J.Part.shown 0 (length (J.source job.now)) r.0) }
-    ensures lists { IfOk result (λ r. All (λ l. IsList J.kind (marks_of J.kind (J.verdicts job.now)) l.items) r.1.items) }
+    requires least { 1 ≤ work.now.least }
+    ensures bundle { IfOk result (λ r. IsBundle J.kind (marks_of J.kind (J.verdicts work.now.job.now)) (J.good work.now.job.now) (J.merges work.now.job.now) J.Part.shown 0 (length (J.source work.now.job.now)) r.0) }
+    ensures lists { IfOk result (λ r. All (λ l. IsList J.kind (marks_of J.kind (J.verdicts work.now.job.now)) l.items) r.1.items) }
 {
-    let n = source.remaining();
-    let (signals, mut signal) = Signals::open(alloc, marks, n)?;
-    let tracked = Tracked {
-        job: Snapshot::of(job),
-    };
-    let (board, mut root) = Board::open(alloc, &tracked, n)?;
-    let (market, mut places) = DequeMarket::open(alloc, workers)?;
-    let mut place = places.remove(0);
-    board.offer(&mut root, 1, source);
-    let ticket = Ticket {
-        node: 1,
-        lo: 0,
-        hi: n,
-    };
-    let _ = market.post(rt, &mut place, ticket);
-    let first = hire(alloc, &signals, &board, &mut root, &mut signal, place, 0)?;
-    let others = hire_all(
-        alloc,
-        &signals,
-        &board,
-        &mut root,
-        &mut signal,
-        &market,
-        places,
-    )?;
-    let run = RunOf {
-        alloc,
-        job,
-        inner,
-        signals: &signals,
-        gate,
-        board: &board,
-        market: &market,
-        least,
-    };
-    let (first, others) = help_all(rt, alloc, &run, first, others);
-    let bundle = run.wait_for(rt, &mut root, 1);
-    let lists = lists_of(alloc, job, first, others)?;
-    Ok((bundle, lists))
+    let (market, places) = DequeMarket::open(work.alloc, workers)?;
+    run_on(rt, work, marks, source, &market, places)
 }

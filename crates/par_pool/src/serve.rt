@@ -15,7 +15,7 @@ use par_splitter::Splitter;
 use par_task::{Chain, Job, chain};
 use std::sync::Wait;
 
-impl<'r, 'a, J: Job, G: Gate, M: Market> Run<'r, 'a, J, G, M> {
+impl<'w, 'r, 'a, J: Job, G: Gate, M: Market> Run<'w, 'r, 'a, J, G, M> {
     /// Claims the node where it is offered, and brings it to its end.
     pub(crate) fn serve<R: Wait>(&self, rt: &R, place: &mut M::Seat, worker: &mut Worker<J>, k: u32)
         requires world { IsWorld J.kind (J.source self.now.job.now) (J.verdicts self.now.job.now) (J.Pred.verdict self.now.inner.now) self.now.signals.now.marks }

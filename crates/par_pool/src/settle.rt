@@ -21,7 +21,7 @@ use par_splitter::Splitter;
 use par_task::Job;
 use std::sync::Wait;
 
-impl<'r, 'a, J: Job, G: Gate, M> Run<'r, 'a, J, G, M> {
+impl<'w, 'r, 'a, J: Job, G: Gate, M> Run<'w, 'r, 'a, J, G, M> {
     /// Claims the node and runs it whole, where it is still offered.
     fn try_node(&self, worker: &mut Worker<J>, k: u32)
         requires world { IsWorld J.kind (J.source self.now.job.now) (J.verdicts self.now.job.now) (J.Pred.verdict self.now.inner.now) self.now.signals.now.marks }

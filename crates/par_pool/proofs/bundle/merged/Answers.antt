@@ -1,4 +1,3 @@
-use Rattle.std.proofs.Common.{◌≡◌, ℕ}
 use Rattle.par_task.specs.Audits.{both}
 use Rattle.par_pool.proofs.bundle.merged.Goals as goal
 

@@ -1,4 +1,4 @@
-use Rattle.std.proofs.Common.{arith, ◌≡◌, sym, subst, take, List, get_or}
+use Rattle.std.proofs.Common.{sym, subst, take, List, get_or}
 use Rattle.std.proofs.lemmas.List.{take_more}
 use Rattle.par_task.specs.Audits.{Adjoins}
 use Rattle.par_task.specs.declared.audit.Leaf.{Leaf}

@@ -1,4 +1,4 @@
-use Rattle.std.proofs.Common.{arith, ◌≡◌, refl}
+use Rattle.std.proofs.Common.{refl}
 use Rattle.par_pool.proofs.Tiling.{nodes_of, distinct_of}
 use Rattle.par_pool.proofs.check.is_tiling.Goals as goal
 

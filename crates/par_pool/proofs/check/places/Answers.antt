@@ -1,4 +1,4 @@
-use Rattle.std.proofs.Common.{rules, arith, ◌≡◌, ◌≤◌, ◌+◌, length, get_or, set, refl, sym, ◌∙◌, ℕ}
+use Rattle.std.proofs.Common.{rules, arith, ◌≡◌, ◌+◌, get_or, refl, ◌∙◌}
 use Rattle.std.proofs.lemmas.List.{get_or_default, length-set}
 use Rattle.par_task.specs.declared.audit.Leaf.{Leaf}
 use Rattle.par_pool.proofs.Tiling.{blank, filling_next}

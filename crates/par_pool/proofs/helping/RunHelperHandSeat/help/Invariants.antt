@@ -1,4 +1,3 @@
-use Rattle.std.proofs.Common.{◌≡◌}
 use Rattle.par_task.specs.Marking.{marks_of}
 use Rattle.par_pool.specs.Own.{IsResting}
 use Rattle.par_pool.proofs.helping.RunHelperHandSeat.help.Given as goal

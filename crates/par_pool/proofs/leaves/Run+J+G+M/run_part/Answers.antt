@@ -1,4 +1,4 @@
-use Rattle.std.proofs.Common.{rules, arith, ◌≡◌, length}
+use Rattle.std.proofs.Common.{rules, ◌≡◌, length}
 use Rattle.par_pool.proofs.Owning.{worker_later, worker_ran, whole_alone}
 use Rattle.par_pool.proofs.leaves.Run+J+G+M.run_part.Goals as goal
 

@@ -1,4 +1,4 @@
-use Rattle.std.proofs.Common.{rules, arith, ◌≡◌, ℕ, ◌+◌, length}
+use Rattle.std.proofs.Common.{arith}
 use Rattle.par_pool.proofs.Offering.{offering_first, offering_next, offering_last, node_near, node_free, piece}
 use Rattle.par_pool.proofs.offers.Run+J+G+M.offer_tails.Goals as goal
 

@@ -1,8 +1,8 @@
-use Rattle.std.proofs.Common.{rules, arith, ◌≡◌, ◌≢◌, ℕ, ◌+◌, ◌*◌, ◌<◌, ◌≤◌, length, refl, ◌∙◌, ap, sym, subst}
+use Rattle.std.proofs.Common.{arith, ℕ, ◌+◌, ◌<◌, ◌≤◌, length, refl, ◌∙◌, ap, sym, subst}
 use Rattle.par_task.specs.Marking.{marks_of}
 use Rattle.par_pool.specs.Bundles.{IsBundle, IsShownBundle, bundle_shown}
 use Rattle.par_pool.proofs.Cutting.{piece_at, head_lo_is, head_spans, head_node, tails_of}
-use Rattle.par_pool.proofs.Gathering.{Gathering, Next, gathering_first, gathering_next, gathering_after, gathering_last, to_within, next_open, next_near, claimed_shut, claimed_loose, finished_loose, finished_shut, elsewhere_loose, elsewhere_shut}
+use Rattle.par_pool.proofs.Gathering.{gathering_first, gathering_next, gathering_after, gathering_last, to_within, next_open, next_near, claimed_shut, claimed_loose, finished_loose, finished_shut, elsewhere_loose, elsewhere_shut}
 use Rattle.par_pool.proofs.serve.Run+J+G+M.serve.Goals as goal
 
 pub returns-in-Elsewhere-clause-worker : goal.returns-in-Elsewhere-clause-worker

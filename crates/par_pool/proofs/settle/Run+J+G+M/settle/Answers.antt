@@ -1,4 +1,4 @@
-use Rattle.std.proofs.Common.{◌≡◌, ℕ, ◌∙◌}
+use Rattle.std.proofs.Common.{◌∙◌}
 use Rattle.par_pool.proofs.Spines.{not_self}
 use Rattle.par_pool.proofs.Gathering.{settled_of}
 use Rattle.par_pool.proofs.settle.Run+J+G+M.settle.Goals as goal
