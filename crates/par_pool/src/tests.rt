@@ -10,7 +10,7 @@ use par_edge::{Gate, OpenGate};
 use par_laws::{Memory, Never, Probe};
 use par_market::{DequeMarket, LockedMarket, Market};
 use par_signal::{Marks, SignalSeat, Signals};
-use par_splitter::{RangeSplitter, Splitter};
+use par_splitter::{RangeSplitter, Splitter, range_count};
 use par_task::{Audit, Done, Job, Leaf, run_alone, threshold};
 use std::alloc::Global;
 use std::sync::Wait;
@@ -35,11 +35,12 @@ struct Listing {
 
 // So many numbers.
 fn numbers(n: u32) -> Option<Listing> {
-    if n > 4_194_304 {
+    let end = i64::from(n);
+    if range_count(0, end, 1) > 4_194_304 {
         return None;
     }
-    let source = RangeSplitter::new(0, i64::from(n), 1);
-    if source.remaining() != n {
+    let source = RangeSplitter::new(0, end, 1);
+    if source.remaining() != n || n > 4_194_304 {
         return None;
     }
     Some(Listing { source })
