@@ -10,8 +10,8 @@ ghost use Rattle.std.specs.Prelude.{◌≡◌, ◌<◌, ◌≤◌, length, IfSom
 
 use par_edge::OpenGate;
 use par_jobs::{
-    Front, Listing, Nothing, Sifted, Sought, front, front_alone, search, search_alone, sift,
-    sift_alone,
+    Front, Listing, Nothing, Sifted, Sought, front_alone, front_pooled, search_alone,
+    search_pooled, sift_alone, sift_pooled,
 };
 use par_laws::{Mapper, Memory, Test, Verdict};
 use par_pool::Plan;
@@ -127,7 +127,7 @@ fn by_threads<R: Threads + Wait + Sync>(
         of: &Value,
         out: PhantomData,
     };
-    let (sifted, a) = sift(
+    let (sifted, a) = sift_pooled(
         rt,
         alloc,
         ArraySplitter::new(items),
@@ -136,8 +136,8 @@ fn by_threads<R: Threads + Wait + Sync>(
         &Nothing,
         plan,
     )?;
-    let (front, b) = front(rt, alloc, ArraySplitter::new(items), test, &list, plan)?;
-    let (sought, c) = search(rt, alloc, ArraySplitter::new(items), test, plan)?;
+    let (front, b) = front_pooled(rt, alloc, ArraySplitter::new(items), test, &list, plan)?;
+    let (sought, c) = search_pooled(rt, alloc, ArraySplitter::new(items), test, plan)?;
     Ok([
         of_sifted(alloc, sifted, a),
         of_front(front, b),
