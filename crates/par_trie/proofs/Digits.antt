@@ -55,7 +55,7 @@ zeros zero d = refl
 zeros (suc n) zero = refl
 zeros (suc n) (suc d) = zeros n d
 
-nothing_at : (d : ℕ) → get_or {A = ℕ} (replicate 32 0) d 0 ≡ 0
+pub nothing_at : (d : ℕ) → get_or {A = ℕ} (replicate 32 0) d 0 ≡ 0
 nothing_at d = zeros 32 d
 
 pub no_index : IsIndex (replicate 32 0) 0

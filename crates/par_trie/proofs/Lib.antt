@@ -1,5 +1,6 @@
 pub mod Digits
 pub mod Few
 pub mod Kids
+pub mod Rows
 pub mod Slots
 pub mod United

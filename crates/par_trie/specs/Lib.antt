@@ -1,4 +1,5 @@
 pub mod Places
 pub mod Below
 pub mod Slots
+pub mod Rows
 pub mod Buckets

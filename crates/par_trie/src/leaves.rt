@@ -53,6 +53,14 @@ impl Few {
         true
     }
 
+    /// The leaves, where there are three.
+    #[inline(always)]
+    pub fn all(&self) -> [Leaf; 3]
+        ensures { result ≡ self.now.leaves }
+    {
+        self.leaves
+    }
+
     /// A node of all three leaves and one more.
     #[inline(never)]
     pub fn deepen<N: Node>(&self, alloc: Global, leaf: Leaf) -> Result<N, Memory>

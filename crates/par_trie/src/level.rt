@@ -3,6 +3,7 @@ ghost use Rattle.std.specs.Prelude.{◌≡◌, ℕ};
 use crate::branch::Branch;
 use crate::chain::Chain;
 use crate::node::Node;
+use crate::twofold::Twofold;
 use crate::wide::Wide;
 use par_index::{Index, Leaf, Wanted};
 use par_laws::Memory;
@@ -12,7 +13,7 @@ use std::alloc::Global;
 type Deep = Branch<Branch<Branch<Chain>>>;
 
 /// Levels 0 to 3, which hold the leaves of a million keys, over the deeper ones.
-pub type Levels = Wide<Wide<Wide<Wide<Box<Deep>>>>>;
+pub type Levels = Wide<Wide<Twofold<Box<Deep>>>>;
 
 /// The levels of a trie, and how many leaves they hold.
 #[derive(Drop)]

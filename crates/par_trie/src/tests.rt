@@ -21,14 +21,21 @@ fn put(trie: &mut HashTrie<i64, u64>, key: i64, value: u64) -> Option<Option<u64
     }
 }
 
-/// Keys of spread hashes, of one hash, and of seven.
+/// Keys of spread hashes, of one hash, of seven, and of mixed hashes of eight digits on level 2 and five on level 3.
 fn key_of(kind: u64, i: u64) -> i64 {
-    let i = (i % 1000) as i64;
+    let i = (i % 1000) as u32;
     match kind {
-        0 => i.wrapping_mul(0x9E37_79B9),
-        1 => i.wrapping_mul(ALIKE),
-        _ => i.wrapping_mul(ALIKE).wrapping_add(i % 7),
+        0 => (i as i64).wrapping_mul(0x9E37_79B9),
+        1 => (i as i64).wrapping_mul(ALIKE),
+        2 => (i as i64).wrapping_mul(ALIKE).wrapping_add((i % 7) as i64),
+        _ => { unmixed(i % 8 * 0x400 + i / 8 % 5 * 0x8000 + i / 40 * 0x10_0000) as i64 }
     }
+}
+
+/// The hash that `mix` turns into this one.
+fn unmixed(mixed: u32) -> u32 {
+    let product = mixed ^ (mixed >> 15) ^ (mixed >> 30);
+    product.wrapping_mul(244_002_641)
 }
 
 #[test]
@@ -58,7 +65,7 @@ fn keys_of_one_hash(rt: HostRuntime) {
 
 #[test]
 fn beside_a_plain_map(rt: HostRuntime) -> Result<(), Fail> {
-    for kind in 0..3 {
+    for kind in 0..4 {
         let mut trie = HashTrie::new(rt.alloc());
         let mut plain = BTreeMap::new(rt.alloc());
         let mut random = 1u64;

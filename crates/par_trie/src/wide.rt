@@ -1,4 +1,5 @@
-ghost use Rattle.std.specs.Prelude.{◌≡◌, ◌<◌, ◌≤◌, ℕ, [], length, OnOk};
+ghost use Rattle.std.specs.Prelude.{◌≡◌, ◌<◌, ◌≤◌, ◌++◌, ℕ, [], length, OnOk, OnErr};
+ghost use Rattle.par_index.specs.Places.{places_of};
 ghost use Rattle.par_trie.specs.Slots.{places_in};
 
 use crate::leaves::Few;
@@ -48,12 +49,27 @@ impl<N: Node> Node for Wide<N> {
     #[inline(always)]
     fn push(&mut self, alloc: Global, leaf: Leaf) -> Result<(), Memory> {
         widen(&mut self.slots)?;
-        let inner = Leaf {
-            rest: leaf.rest / 32,
-            at: leaf.at,
-        };
-        push_at(&mut self.slots[(leaf.rest % 32) as usize], alloc, inner)
+        push_among(&mut self.slots, alloc, leaf)
     }
+}
+
+/// One more leaf among the 32 slots of a level. A refusal leaves them as they were.
+#[inline(always)]
+pub fn push_among<N: Node>(
+    slots: &mut Vec<Slot<N>>,
+    alloc: Global,
+    leaf: Leaf,
+) -> Result<(), Memory>
+    requires { 32 ≤ length slots.old.items }
+    ensures count { length slots.new.items ≡ length slots.old.items }
+    ensures ok { OnOk result ((q : ℕ) → places_in N.places slots.new.items q ≡ places_in N.places slots.old.items q ++ places_of leaf q) }
+    ensures err { OnErr result ((q : ℕ) → places_in N.places slots.new.items q ≡ places_in N.places slots.old.items q) }
+{
+    let inner = Leaf {
+        rest: leaf.rest / 32,
+        at: leaf.at,
+    };
+    push_at(&mut slots[(leaf.rest % 32) as usize], alloc, inner)
 }
 
 /// Free slots up to the 32nd, where they aren't there yet.
@@ -68,10 +84,11 @@ fn widen<N: Node>(slots: &mut Vec<Slot<N>>) -> Result<(), Memory>
     fill(slots)
 }
 
+/// Free slots up to the 32nd.
 #[inline(never)]
-fn fill<N: Node>(slots: &mut Vec<Slot<N>>) -> Result<(), Memory>
+pub fn fill<N: Node>(slots: &mut Vec<Slot<N>>) -> Result<(), Memory>
     requires { length slots.old.items < 32 }
-    ensures room { OnOk result (32 ≤ length slots.new.items) }
+    ensures count { OnOk result (length slots.new.items ≡ 32) }
     ensures same { (q : ℕ) → places_in N.places slots.new.items q ≡ places_in N.places slots.old.items q }
 {
     let present = slots.len();
