@@ -1,6 +1,7 @@
 //! What a stranger does with the library: sums, filters, searches, and folds with a monoid of its own.
 //!
-//! The items are orders in an array. Each call lends them to a splitter and runs on one thread.
+//! The items are orders in an array, which each call lends to a splitter. The report is made on one thread; the large orders
+//! are kept on several.
 #![tactic(auto)]
 
 ghost use Rattle.std.specs.Prelude.{◌≡◌, ◌≤◌, length, map, pos, IfOk};
@@ -14,8 +15,9 @@ use par_access::{
 use par_combiner::ArrayCombiner;
 use par_edge::OpenGate;
 use par_laws::{FaultAt, Gather, Mapper, Memory, Monoid, Test, Tried, Verdict};
+use par_pool::Plan;
 use par_splitter::{ArraySplitter, Splitter};
-use par_transform::filter_alone;
+use par_transform::filter;
 use std::alloc::Global;
 use std::io;
 
@@ -186,13 +188,18 @@ fn main(rt: HostRuntime) -> io::Result<()> {
         };
         println!(rt; "{:?}", report)?;
         let source = ArraySplitter::new(orders);
-        let Ok((worths, _)) = filter_alone::<_, ArrayCombiner<i64>, _, _, _>(
+        let plan = Plan {
+            workers: 4,
+            level: LEVEL,
+            gate: &OpenGate,
+        };
+        let Ok((worths, _)) = filter::<_, ArrayCombiner<i64>, _, _, _, _>(
+            &rt,
             rt.alloc(),
             source,
             &large,
             &Worth,
-            LEVEL,
-            &OpenGate,
+            &plan,
         ) else {
             return Err(io::ErrorKind::OutOfMemory.into());
         };
