@@ -21,11 +21,11 @@ ghost use Rattle.pipe_answers.specs.Lasts.{Gives, StopsBy, numbers, separated_by
 ghost use Rattle.pipe_answers.specs.Makes.{made_fault, made_values};
 ghost use Rattle.pipe_answers.specs.Texts as texts;
 
-use crate::made::{Present, fold_made, fold_made_alone};
+use crate::made::{Present, fold_made_alone, value_of};
 use crate::rows::with_table;
 use crate::texts;
 use par_edge::Gate;
-use par_laws::{Greatest, Least, Product, Sum, Tried};
+use par_laws::{Greatest, Guard, Least, Product, Sum, Tried};
 use par_pool::Plan;
 use par_rows::{Row, Schema};
 use par_task::Audit;
@@ -118,7 +118,13 @@ pub(crate) fn sum<G: Gate + Sync, T: Threads + Wait + Sync>(
     ensures { Gives (made_fault (map (number_made schema.now.columns.items (view e.now)) (pointed rows.now))) (λ text. text ≡ texts.number_text (fold wrapped_sum (pos 0) (numbers schema.now.columns.items (view e.now) (pointed rows.now)))) (IsRun no_test untested (pointed rows.now) (planned plan.now.workers plan.now.level)) result }
 {
     let number = Number::bind(alloc, e, schema)?;
-    let (sum, audit) = fold_made(rt, alloc, &Sum, &number, rows, plan)?;
+    let guard = Guard {
+        how: &Sum,
+        of: &number,
+    };
+    let source = CopySplitter::new(rows);
+    let (folded, audit) = par_access::aggregate(rt, alloc, source, &guard, plan)?;
+    let sum = value_of(&Sum, &number, rows, folded)?;
     Ok((texts::number(alloc, sum)?, Some(audit)))
 }
 
@@ -157,7 +163,13 @@ pub(crate) fn product<G: Gate + Sync, T: Threads + Wait + Sync>(
     ensures { Gives (made_fault (map (number_made schema.now.columns.items (view e.now)) (pointed rows.now))) (λ text. text ≡ texts.number_text (fold wrapped_product (pos 1) (numbers schema.now.columns.items (view e.now) (pointed rows.now)))) (IsRun no_test untested (pointed rows.now) (planned plan.now.workers plan.now.level)) result }
 {
     let number = Number::bind(alloc, e, schema)?;
-    let (product, audit) = fold_made(rt, alloc, &Product, &number, rows, plan)?;
+    let guard = Guard {
+        how: &Product,
+        of: &number,
+    };
+    let source = CopySplitter::new(rows);
+    let (folded, audit) = par_access::aggregate(rt, alloc, source, &guard, plan)?;
+    let product = value_of(&Product, &number, rows, folded)?;
     Ok((texts::number(alloc, product)?, Some(audit)))
 }
 
@@ -197,7 +209,13 @@ pub(crate) fn min<G: Gate + Sync, T: Threads + Wait + Sync>(
 {
     let number = Number::bind(alloc, e, schema)?;
     let present = Present { of: &number };
-    let (least, audit) = fold_made(rt, alloc, &Least, &present, rows, plan)?;
+    let guard = Guard {
+        how: &Least,
+        of: &present,
+    };
+    let source = CopySplitter::new(rows);
+    let (folded, audit) = par_access::aggregate(rt, alloc, source, &guard, plan)?;
+    let least = value_of(&Least, &present, rows, folded)?;
     Ok((texts::number_or_none(alloc, least)?, Some(audit)))
 }
 
@@ -238,7 +256,13 @@ pub(crate) fn max<G: Gate + Sync, T: Threads + Wait + Sync>(
 {
     let number = Number::bind(alloc, e, schema)?;
     let present = Present { of: &number };
-    let (greatest, audit) = fold_made(rt, alloc, &Greatest, &present, rows, plan)?;
+    let guard = Guard {
+        how: &Greatest,
+        of: &present,
+    };
+    let source = CopySplitter::new(rows);
+    let (folded, audit) = par_access::aggregate(rt, alloc, source, &guard, plan)?;
+    let greatest = value_of(&Greatest, &present, rows, folded)?;
     Ok((texts::number_or_none(alloc, greatest)?, Some(audit)))
 }
 

@@ -15,16 +15,16 @@ ghost use Rattle.pipe_answers.specs.Lasts.{Gives, separated_by};
 ghost use Rattle.pipe_answers.specs.Makes.{made_fault, made_values};
 ghost use Rattle.pipe_answers.specs.Texts as texts;
 
-use crate::made::{Present, fold_made, fold_made_alone};
+use crate::made::{Present, fold_made_alone, value_of};
 use crate::numbers::Told;
 use crate::texts::word;
 use par_edge::Gate;
-use par_laws::{Joined, Keep, Memory, Words};
+use par_laws::{Guard, Joined, Keep, Memory, Words};
 use par_pool::Plan;
 use par_rows::{Row, Schema};
 use pipe_eval::Shown;
 use pipe_expr::Expr;
-use pipe_stages::StepStop;
+use pipe_stages::{CopySplitter, StepStop};
 use std::alloc::Global;
 use std::sync::Wait;
 use std::thread::Threads;
@@ -60,7 +60,13 @@ pub(crate) fn mk_string<G: Gate + Sync, T: Threads + Wait + Sync>(
     let how = Joined {
         sep: sep.copy(alloc)?,
     };
-    let (joined, audit) = fold_made(rt, alloc, &how, &present, rows, plan)?;
+    let guard = Guard {
+        how: &how,
+        of: &present,
+    };
+    let source = CopySplitter::new(rows);
+    let (folded, audit) = par_access::aggregate(rt, alloc, source, &guard, plan)?;
+    let joined = value_of(&how, &present, rows, folded)?;
     Ok((joined_text(alloc, joined)?, Some(audit)))
 }
 

@@ -1,10 +1,13 @@
-use Rattle.std.proofs.Common.{◌≡◌, ◌∙◌, ap}
+use Rattle.std.proofs.Common.{◌≡◌, ◌∙◌, ap, refl}
 use Rattle.std.proofs.lemmas.Result.{err_from_is_err_and}
 use Rattle.std.specs.Int.{int_min}
 use Rattle.pipe_stages.specs.Rows.{pointed}
 use Rattle.pipe_answers.specs.Texts.{number_or_none}
 use Rattle.pipe_answers.proofs.Presents.{present_fine, present_stop, present_value}
 use Rattle.pipe_answers.proofs.numbers.min.Goals as goal
+
+pub value_of-requires : goal.value_of-requires
+value_of-requires g c = λ k. ((refl, tt), (c.requires.small, rw c.new-source.ensures.list at c.in_ok-folded.ensures.answer))
 
 pub returns-in_err-least : goal.returns-in_err-least
 returns-in_err-least g c =
@@ -15,5 +18,5 @@ pub returns : goal.returns
 returns g c = (
   present_fine _ _ c.in_ok-number.ensures (pointed c.args.rows.now) c.in_ok-least.ensures.fine,
   c.in_ok-number_or_none.ensures ∙ ap number_or_none (present_value _ _ c.in_ok-number.ensures (pointed c.args.rows.now) int_min c.in_ok-least.least c.in_ok-least.ensures.value),
-  c.in_ok-least.ensures.audit,
+  rw c.new-source.ensures.list at c.in_ok-folded.ensures.audit,
 )
