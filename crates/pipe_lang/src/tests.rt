@@ -56,15 +56,22 @@ fn canonical_texts_read_as_they_were(rt: HostRuntime) {
     }
 }
 
-// How many columns the source of a text has, where its last step is `size`.
+// How many columns the source of a pipeline has, where its last step is `size`.
+fn columns_if_sized(alloc: Global, pipeline: &Pipeline) -> Option<usize> {
+    if !matches!(pipeline.last, Last::Size) {
+        return None;
+    }
+    match schema_after(alloc, pipeline, 1) {
+        Ok(schema) => Some(schema.columns.len()),
+        Err(_) => None,
+    }
+}
+
+// The same of a text.
 fn sized_columns(alloc: Global, text: &[u8]) -> Option<usize> {
-    let pipeline = parsed(alloc, text)?;
-    match pipeline.last {
-        Last::Size => match schema_after(alloc, &pipeline, 1) {
-            Ok(schema) => Some(schema.columns.len()),
-            Err(_) => None,
-        },
-        _ => None,
+    match parsed(alloc, text) {
+        Some(pipeline) => columns_if_sized(alloc, &pipeline),
+        None => None,
     }
 }
 

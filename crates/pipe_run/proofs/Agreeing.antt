@@ -1,6 +1,7 @@
 -- Any two rulings of the same words and files agree: both are texts, or both are the same refusal.
 use Rattle.std.proofs.Common.{◌≡◌, ◌∙◌, sym, refl, ap, subst, ℕ, ◌+◌, ◌<◌, ◌≤◌, ℤ, Bool, Option, Some, None, Result, Ok, Err, arith, inl, inr, List, [], ◌∷◌, ◌++◌, length, map}
 use Rattle.par_task.specs.Manners.{Manner}
+use Rattle.par_pool.specs.Plans.{planned}
 use Rattle.par_edge.specs.Count.{Rose}
 use Rattle.par_edge.specs.Files.{File, IfTold}
 use Rattle.par_edge.specs.Shelves.{ShelfState}
@@ -182,7 +183,7 @@ agreed laws (Some (Run pipe name workers level audit)) files r s h g =
     then_agreed _ _ (given_one laws text plan.origin name) (λ _.
     then_agreed _ _ (built_one laws text) (λ _.
     then_agreed _ _ (rows_one plan.origin name files) (λ rows.
-    told_agreed manner audit plan rows))))) r s h g
+    told_agreed (planned workers level) audit plan rows))))) r s h g
 
 status_agrees : (r s : Result (List ℕ) Outcome) → Agree r s → status_of_ruling r ≡ status_of_ruling s
 status_agrees (Ok x) (Ok y) h = refl

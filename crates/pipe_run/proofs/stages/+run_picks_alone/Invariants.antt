@@ -1,5 +1,5 @@
 use Rattle.std.proofs.Common.{length}
-use Rattle.pipe_run.proofs.stages.+run_picks.Given as goal
+use Rattle.pipe_run.proofs.stages.+run_picks_alone.Given as goal
 
-abbrev pub decreases-run_picks : goal.decreases-run_picks
-decreases-run_picks g l = length l.rest.steps.now
+abbrev pub decreases-run_picks_alone : goal.decreases-run_picks_alone
+decreases-run_picks_alone g l = length l.rest.steps.now

@@ -1,5 +1,5 @@
 use Rattle.std.proofs.Common.{length}
-use Rattle.pipe_run.proofs.stages.+run_stages.Given as goal
+use Rattle.pipe_run.proofs.stages.+run_stages_alone.Given as goal
 
-abbrev pub decreases-run_stages : goal.decreases-run_stages
-decreases-run_stages g l = length l.rest.steps.now
+abbrev pub decreases-run_stages_alone : goal.decreases-run_stages_alone
+decreases-run_stages_alone g l = length l.rest.steps.now
