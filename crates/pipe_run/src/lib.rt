@@ -12,8 +12,6 @@
 
 mod built;
 mod files;
-#[cfg(test)]
-mod gate_tests;
 mod lines;
 mod outcome;
 mod program;

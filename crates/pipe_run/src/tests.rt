@@ -32,7 +32,7 @@ const READ_FAILED: &str = "parcoll: read failed\n";
 const WRITE_FAILED: &str = "parcoll: write failed\n";
 
 // A shelf that holds a pipeline under the name `p` and data under the name `d`, and gives at most `piece` bytes a call.
-pub(crate) fn shelf(
+fn shelf(
     alloc: Global,
     pipe: &str,
     data: &str,
@@ -51,7 +51,7 @@ pub(crate) fn shelf(
     Ok(MemoryShelf::new(files, piece, [fails].to_vec(alloc)?))
 }
 
-pub(crate) fn owned(alloc: Global, texts: &[&str]) -> Result<Vec<String>, Memory> {
+fn owned(alloc: Global, texts: &[&str]) -> Result<Vec<String>, Memory> {
     let mut words = Vec::new(alloc);
     for text in texts {
         words.push(String::from_str(alloc, text)?)?;
@@ -161,14 +161,6 @@ fn answers(rt: HostRuntime) -> Result<(), Fail> {
             "t\na\n\"b,c\"\n",
             "a+b,c\n",
         ),
-        Case {
-            words: &["run", "p", "--workers", "2", "--level", "64"],
-            ..runs(THIRDS, "", "x\n0\n3\n6\n9\n")
-        },
-        Case {
-            words: &["run", "p", "d", "--workers", "64"],
-            ..runs(SUM, BIG, WRAPPED)
-        },
         Case {
             words: &["check", "p"],
             ..runs(EVERY_THIRD, "", CANONICAL)
