@@ -11,7 +11,7 @@ ghost use Rattle.pipe_run.specs.declared.outcome.Outcome.TheVariants as is;
 
 use crate::lines::say;
 use crate::outcome::{Outcome, status};
-use crate::run::{check_alone, run_alone_main, run_main};
+use crate::run::{check_alone, run_main};
 use par_edge::{Gate, Shelf, Sink};
 use par_pool::Plan;
 use pipe_program::text_laws;
@@ -34,13 +34,6 @@ fn run_command<H: Shelf, O: Sink, G: Gate + Sync, X: Threads + Wait + Sync>(
     ensures lawful { result ≢ is.Usage }
 {
     match command {
-        Command::Run {
-            pipe,
-            data,
-            workers: 1,
-            level,
-            audit,
-        } => run_alone_main(alloc, pipe, data, audit, level, shelf, out, gate),
         Command::Run {
             pipe,
             data,

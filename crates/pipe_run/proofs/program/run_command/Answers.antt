@@ -1,7 +1,7 @@
 use Rattle.pipe_run.proofs.program.run_command.Goals as goal
 
 pub returns-in-Run-clause-ends : goal.returns-in-Run-clause-ends
-returns-in-Run-clause-ends g c = rw c.in-Run.is c.run_alone_main.ensures.ends
+returns-in-Run-clause-ends g c = rw c.in-Run.is c.run_main.ensures.ends
 
 pub returns-in-Check-clause-ends : goal.returns-in-Check-clause-ends
 returns-in-Check-clause-ends g c = rw c.in-Check.is c.check_alone.ensures.ends
