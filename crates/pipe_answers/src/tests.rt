@@ -5,9 +5,10 @@ ghost use Rattle.pipe_expr.specs.Grammar.{view};
 ghost use Rattle.pipe_steps.specs.Said.{last_view};
 ghost use Rattle.pipe_answers.specs.Lasts.{is_sound_last};
 
-use crate::{StageAudit, is_built_last, run_last_alone, write_audits};
+use crate::{StageAudit, is_built_last, run_last, run_last_alone, write_audits};
 use par_edge::OpenGate;
 use par_laws::{FaultAt, Memory, Words};
+use par_pool::Plan;
 use par_rows::{Column, ColumnKind, Row, Schema, Value, Values};
 use par_task::{Audit, Leaf};
 use pipe_checks::{ValueKind, Want, kind_of};
@@ -16,7 +17,9 @@ use pipe_stages::StepStop;
 use pipe_steps::Last;
 use std::alloc::Global;
 use std::process::Abort;
+use std::sync::Wait;
 use std::test::Fail;
+use std::thread::Threads;
 
 // Whether `++` stands in an expression.
 fn appends(e: &Expr) -> bool
@@ -117,11 +120,13 @@ fn words(alloc: Global, text: &str) -> Result<Words, Memory> {
     Words::from_text(alloc, text)
 }
 
-// The text of a last step over some rows, or why there is none; None where the step can't be run.
-fn told(
+// The text of a last step over some rows by so many workers, or why there is none; None where the step can't be run.
+fn told<R: Threads + Wait + Sync>(
+    rt: &R,
     alloc: Global,
     last: &Last,
     rows: &[(i64, &str)],
+    workers: u32,
 ) -> Result<Option<Result<Vec<u8>, StepStop>>, Memory> {
     let schema = schema(alloc)?;
     if !is_built_last(last) || !is_sound(&schema.columns, last) {
@@ -138,26 +143,55 @@ fn told(
     if lent.len() > 1000 {
         return Ok(None);
     }
-    match run_last_alone(alloc, last, &schema, &lent, 4, &OpenGate) {
+    let plan = Plan {
+        workers: workers.clamp(1, 64),
+        level: 4,
+        gate: &OpenGate,
+    };
+    let ran = if workers == 1 {
+        run_last_alone(alloc, last, &schema, &lent, 4, &OpenGate)
+    } else {
+        run_last(rt, alloc, last, &schema, &lent, &plan)
+    };
+    match ran {
         Ok((text, _)) => Ok(Some(Ok(text))),
         Err(stop) => Ok(Some(Err(stop))),
     }
 }
 
-// Whether a last step tells this text.
-fn tells(alloc: Global, last: &Last, rows: &[(i64, &str)], wanted: &str) -> Result<bool, Memory> {
-    match told(alloc, last, rows)? {
-        Some(Ok(text)) => Ok(text.as_slice() == wanted.as_bytes()),
-        _ => Ok(false),
+// Whether a last step tells this text by one worker and by more.
+fn tells<R: Threads + Wait + Sync>(
+    rt: &R,
+    alloc: Global,
+    last: &Last,
+    rows: &[(i64, &str)],
+    wanted: &str,
+) -> Result<bool, Memory> {
+    for workers in WORKERS {
+        match told(rt, alloc, last, rows, workers)? {
+            Some(Ok(text)) if text.as_slice() == wanted.as_bytes() => {}
+            _ => return Ok(false),
+        }
     }
+    Ok(true)
 }
 
-// Whether a last step stops by a zero divisor at this row.
-fn stops_at(alloc: Global, last: &Last, rows: &[(i64, &str)], at: u32) -> Result<bool, Memory> {
-    match told(alloc, last, rows)? {
-        Some(Err(stop)) => Ok(stop == StepStop::Fault(FaultAt { at, kind: 1 })),
-        _ => Ok(false),
+// Whether a last step stops by a zero divisor at this row, by one worker and by more.
+fn stops_at<R: Threads + Wait + Sync>(
+    rt: &R,
+    alloc: Global,
+    last: &Last,
+    rows: &[(i64, &str)],
+    at: u32,
+) -> Result<bool, Memory> {
+    let wanted = StepStop::Fault(FaultAt { at, kind: 1 });
+    for workers in WORKERS {
+        match told(rt, alloc, last, rows, workers)? {
+            Some(Err(stop)) if stop == wanted => {}
+            _ => return Ok(false),
+        }
     }
+    Ok(true)
 }
 
 // Asserts what was found out.
@@ -167,25 +201,28 @@ fn hold(rt: &impl Abort, found: Result<bool, Memory>) -> Result<(), Fail> {
     Ok(())
 }
 
-fn expect(
-    rt: &impl Abort,
+fn expect<R: Abort + Threads + Wait + Sync>(
+    rt: &R,
     alloc: Global,
     last: Last,
     rows: &[(i64, &str)],
     wanted: &str,
 ) -> Result<(), Fail> {
-    hold(rt, tells(alloc, &last, rows, wanted))
+    hold(rt, tells(rt, alloc, &last, rows, wanted))
 }
 
-fn expect_fault(
-    rt: &impl Abort,
+fn expect_fault<R: Abort + Threads + Wait + Sync>(
+    rt: &R,
     alloc: Global,
     last: Last,
     rows: &[(i64, &str)],
     at: u32,
 ) -> Result<(), Fail> {
-    hold(rt, stops_at(alloc, &last, rows, at))
+    hold(rt, stops_at(rt, alloc, &last, rows, at))
 }
+
+// By how many workers each step is run.
+const WORKERS: [u32; 3] = [1, 2, 4];
 
 const NONE: [(i64, &str); 0] = [];
 

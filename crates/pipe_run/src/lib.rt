@@ -24,4 +24,6 @@ pub use program::parcoll;
 pub use run::{check_alone, run_alone_main, run_main};
 
 #[cfg(test)]
+mod gated_tests;
+#[cfg(test)]
 mod tests;

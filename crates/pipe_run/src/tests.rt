@@ -32,7 +32,7 @@ const READ_FAILED: &str = "parcoll: read failed\n";
 const WRITE_FAILED: &str = "parcoll: write failed\n";
 
 // A shelf that holds a pipeline under the name `p` and data under the name `d`, and gives at most `piece` bytes a call.
-fn shelf(
+pub(crate) fn shelf(
     alloc: Global,
     pipe: &str,
     data: &str,
@@ -51,7 +51,7 @@ fn shelf(
     Ok(MemoryShelf::new(files, piece, [fails].to_vec(alloc)?))
 }
 
-fn owned(alloc: Global, texts: &[&str]) -> Result<Vec<String>, Memory> {
+pub(crate) fn owned(alloc: Global, texts: &[&str]) -> Result<Vec<String>, Memory> {
     let mut words = Vec::new(alloc);
     for text in texts {
         words.push(String::from_str(alloc, text)?)?;

@@ -1,37 +1,33 @@
 //! Many jobs on several threads, each beside the same job on one.
 //!
-//! Sizes, levels, numbers of workers and marks take turns. Each job must answer what one thread answers; a search may
-//! name any item that passes. How many runs there were and whether a helper ran a leaf goes to standard output; how many
-//! leaves helpers ran, which hangs on the machine, goes to standard error.
+//! Sizes, levels, numbers of workers and marks are drawn with a seed that is fixed. Each job must answer what one thread
+//! answers, by leaves of which one ends wherever one of that thread's does; a search may name any item that passes. How many
+//! jobs there were and how many answered otherwise goes to standard output. How many leaves helpers ran, which hangs on
+//! the machine, goes to standard error.
 #![tactic(auto)]
 
-ghost use Rattle.std.specs.Prelude.{◌≡◌, ◌≤◌, length, IfSome};
+ghost use Rattle.std.specs.Prelude.{◌≡◌, ◌<◌, ◌≤◌, length, IfSome};
 
 use par_edge::OpenGate;
-use par_jobs::{Counting, FrontJob, Nothing, SearchJob, SiftJob, Sifted, Sought};
-use par_laws::{Memory, Test, Verdict};
-use par_pool::{Plan, run_job};
-use par_splitter::{ArraySplitter, Splitter};
-use par_task::{Audit, Marked};
+use par_jobs::{
+    Front, Listing, Nothing, Sifted, Sought, front_alone, front_pooled, search_alone,
+    search_pooled, sift_alone, sift_pooled,
+};
+use par_laws::{Mapper, Memory, Test, Verdict};
+use par_pool::Plan;
+use par_splitter::ArraySplitter;
+use par_task::{Audit, Leaf};
 use std::alloc::Global;
 use std::io;
+use std::marker::PhantomData;
 use std::sync::Wait;
 use std::thread::Threads;
 
-/// The sizes of the sources.
-const SIZES: [usize; 8] = [0, 1, 2, 3, 100, 1_000, 5_000, 40_000];
+/// How many items there are; each source is a beginning of them.
+const ITEMS: i64 = 16_384;
 
-/// How finely the sources are cut.
-const LEVELS: [u32; 3] = [1, 4, 64];
-
-/// By how many workers a job is run; each is compared with the first.
-const WORKERS: [u32; 4] = [1, 2, 4, 64];
-
-/// The least numbers that are marked; the numbers are 0 to 999, again and again.
-const MARKS: [i64; 3] = [0, 700, 1_000];
-
-/// How often all of these are gone through.
-const ROUNDS: usize = 2;
+/// How many times the three jobs are run.
+const ROUNDS: u32 = 670;
 
 /// The test that a number is `least` or more.
 #[derive(Clone, Copy)]
@@ -53,22 +49,164 @@ impl<'a> Test<&'a i64> for AtLeast {
     }
 }
 
-/// What the jobs of one run answered, and how many leaves others than the caller ran.
+/// The number that a reference points to.
 #[derive(Clone, Copy)]
-struct Answers {
-    /// The index of the first item that passes, or the number of items.
-    front: u32,
-    /// Whether a search found an item, and none before the first.
-    found: bool,
-    /// How many items pass.
-    count: u32,
-    /// How many leaves helpers ran.
-    helped: u32,
+struct Value;
+
+impl<'a> Mapper<&'a i64, i64> for Value {
+    ghost mapped = { λ _ x. x };
+
+    fn map(&self, _alloc: Global, item: &&'a i64) -> Result<i64, Memory> {
+        Ok(**item)
+    }
+}
+
+/// What a job answered: the numbers that it kept, a place, and its leaves.
+#[derive(Drop)]
+struct Ran {
+    kept: Vec<i64>,
+    place: u32,
+    audit: Audit,
+}
+
+/// Those that pass.
+fn of_sifted(alloc: Global, sifted: Sifted<Vec<i64>, Nothing>, audit: Audit) -> Ran {
+    match sifted {
+        Sifted::Got(kept, _) => Ran {
+            kept,
+            place: 0,
+            audit,
+        },
+        Sifted::Fell(_) => Ran {
+            kept: Vec::new(alloc),
+            place: 1,
+            audit,
+        },
+    }
+}
+
+/// Those before the first that passes, and its place.
+fn of_front(front: Front<Vec<i64>>, audit: Audit) -> Ran {
+    Ran {
+        kept: front.kept,
+        place: front.end,
+        audit,
+    }
+}
+
+/// Whether one that passes was found: 0 where none was, 1 where it passes, and 2 where it does not.
+fn of_sought(alloc: Global, items: &[i64], least: i64, sought: Sought, audit: Audit) -> Ran {
+    let place = match sought {
+        Sought::Found(i) => match items.get(i as usize) {
+            Some(item) if least <= *item => 1,
+            _ => 2,
+        },
+        Sought::Fell(_) => 2,
+        Sought::Nowhere => 0,
+    };
+    Ran {
+        kept: Vec::new(alloc),
+        place,
+        audit,
+    }
+}
+
+/// The three jobs by a plan.
+fn by_threads<R: Threads + Wait + Sync>(
+    rt: &R,
+    alloc: Global,
+    items: &[i64],
+    test: &AtLeast,
+    plan: &Plan<'_, OpenGate>,
+) -> Result<[Ran; 3], Memory>
+    requires few { length items.now ≤ 4194304 }
+    requires level { (1 ≤ plan.now.level) × (plan.now.level ≤ 64) }
+    requires workers { (1 ≤ plan.now.workers) × (plan.now.workers ≤ 64) }
+{
+    let list = Listing {
+        of: &Value,
+        out: PhantomData,
+    };
+    let (sifted, a) = sift_pooled(
+        rt,
+        alloc,
+        ArraySplitter::new(items),
+        test,
+        &list,
+        &Nothing,
+        plan,
+    )?;
+    let (front, b) = front_pooled(rt, alloc, ArraySplitter::new(items), test, &list, plan)?;
+    let (sought, c) = search_pooled(rt, alloc, ArraySplitter::new(items), test, plan)?;
+    Ok([
+        of_sifted(alloc, sifted, a),
+        of_front(front, b),
+        of_sought(alloc, items, test.least, sought, c),
+    ])
+}
+
+/// The three jobs on one thread.
+fn by_one(alloc: Global, items: &[i64], test: &AtLeast, level: u32) -> Result<[Ran; 3], Memory>
+    requires few { length items.now ≤ 4194304 }
+    requires level { (1 ≤ level) × (level ≤ 64) }
+{
+    let list = Listing {
+        of: &Value,
+        out: PhantomData,
+    };
+    let gate = &OpenGate;
+    let (sifted, a) = sift_alone(
+        alloc,
+        ArraySplitter::new(items),
+        test,
+        &list,
+        &Nothing,
+        level,
+        gate,
+    )?;
+    let (front, b) = front_alone(alloc, ArraySplitter::new(items), test, &list, level, gate)?;
+    let (sought, c) = search_alone(alloc, ArraySplitter::new(items), test, level, gate)?;
+    Ok([
+        of_sifted(alloc, sifted, a),
+        of_front(front, b),
+        of_sought(alloc, items, test.least, sought, c),
+    ])
+}
+
+/// Whether a leaf ends there.
+fn ends_at(leaves: &[Leaf], hi: u32) -> bool {
+    for leaf in leaves {
+        if leaf.hi == hi {
+            return true;
+        }
+    }
+    false
+}
+
+/// Whether some leaf ends wherever one of the others does.
+fn is_finer(leaves: &[Leaf], others: &[Leaf]) -> bool {
+    for other in others {
+        if !ends_at(leaves, other.hi) {
+            return false;
+        }
+    }
+    true
+}
+
+/// Whether so many workers answered what one did.
+fn is_same(ran: &Ran, alone: &Ran, workers: u32) -> bool {
+    let (leaves, others) = (ran.audit.leaves(), alone.audit.leaves());
+    let told = if workers == 1 {
+        leaves == others
+    } else {
+        is_finer(leaves, others)
+    };
+    told && ran.place == alone.place && ran.kept == alone.kept
 }
 
 /// How many leaves helpers ran.
-fn helped(audit: &Audit) -> u32 {
-    let mut count: u32 = 0;
+fn helped(audit: &Audit) -> u64 {
+    let mut count: u64 = 0;
     for leaf in audit.leaves() {
         if leaf.seat != 0 {
             count = count.wrapping_add(1);
@@ -77,137 +215,26 @@ fn helped(audit: &Audit) -> u32 {
     count
 }
 
-/// The index of the first item that passes, or the number of items.
-fn front<S: Splitter + Send + Sync, P: Test<S::Item> + Send + Sync, R: Threads + Wait + Sync>(
-    rt: &R,
-    alloc: Global,
-    source: S,
-    test: &P,
-    plan: &Plan<'_, OpenGate>,
-) -> Result<(u32, u32), Memory>
-where
-    S::Item: Send,
-    requires place { S.lo source ≡ 0 }
-    requires few { length (S.items source) ≤ 4194304 }
-    requires level { (1 ≤ plan.now.level) × (plan.now.level ≤ 64) }
-    requires workers { (1 ≤ plan.now.workers) × (plan.now.workers ≤ 64) }
-{
-    let split = source.dup();
-    let job = FrontJob {
-        marked: Marked::over(&split, test, true),
-        builder: &Nothing,
-    };
-    let marks = Marked::over(&split, test, true);
-    let (front, audit) = run_job(rt, alloc, &job, test, &marks, source, plan)?;
-    Ok((front.end, helped(&audit)))
-}
-
-/// The index of an item that passes, or the number of items.
-fn search<S: Splitter + Send + Sync, P: Test<S::Item> + Send + Sync, R: Threads + Wait + Sync>(
-    rt: &R,
-    alloc: Global,
-    source: S,
-    test: &P,
-    plan: &Plan<'_, OpenGate>,
-) -> Result<(u32, u32), Memory>
-where
-    S::Item: Send,
-    requires place { S.lo source ≡ 0 }
-    requires few { length (S.items source) ≤ 4194304 }
-    requires level { (1 ≤ plan.now.level) × (plan.now.level ≤ 64) }
-    requires workers { (1 ≤ plan.now.workers) × (plan.now.workers ≤ 64) }
-{
-    let split = source.dup();
-    let n = split.remaining();
-    let job = SearchJob {
-        marked: Marked::over(&split, test, false),
-    };
-    let marks = Marked::over(&split, test, false);
-    let (sought, audit) = run_job(rt, alloc, &job, test, &marks, source, plan)?;
-    let found = match sought {
-        Sought::Found(i) => i,
-        Sought::Fell(_) | Sought::Nowhere => n,
-    };
-    Ok((found, helped(&audit)))
-}
-
-/// How many items pass.
-fn count<S: Splitter + Send + Sync, P: Test<S::Item> + Send + Sync, R: Threads + Wait + Sync>(
-    rt: &R,
-    alloc: Global,
-    source: S,
-    test: &P,
-    plan: &Plan<'_, OpenGate>,
-) -> Result<(u32, u32), Memory>
-where
-    S::Item: Send,
-    requires place { S.lo source ≡ 0 }
-    requires few { length (S.items source) ≤ 4194304 }
-    requires level { (1 ≤ plan.now.level) × (plan.now.level ≤ 64) }
-    requires workers { (1 ≤ plan.now.workers) × (plan.now.workers ≤ 64) }
-{
-    let split = source.dup();
-    let job = SiftJob {
-        marked: Marked::over(&split, test, false),
-        passing: &Counting,
-        failing: &Nothing,
-    };
-    let marks = Marked::over(&split, test, false);
-    let (sifted, audit) = run_job(rt, alloc, &job, test, &marks, source, plan)?;
-    let count = match sifted {
-        Sifted::Got(count, _) => count,
-        Sifted::Fell(_) => u32::MAX,
-    };
-    Ok((count, helped(&audit)))
-}
-
-/// Runs the three jobs over the items by a plan.
-fn run<R: Threads + Wait + Sync>(
-    rt: &R,
-    alloc: Global,
-    items: &[i64],
-    test: &AtLeast,
-    plan: &Plan<'_, OpenGate>,
-) -> Result<Answers, Memory>
-    requires few { length items.now ≤ 4194304 }
-    requires level { (1 ≤ plan.now.level) × (plan.now.level ≤ 64) }
-    requires workers { (1 ≤ plan.now.workers) × (plan.now.workers ≤ 64) }
-{
-    let source = ArraySplitter::new(items);
-    let (front, a) = front(rt, alloc, source.dup(), test, plan)?;
-    let (found, b) = search(rt, alloc, source.dup(), test, plan)?;
-    let (count, c) = count(rt, alloc, source, test, plan)?;
-    Ok(Answers {
-        front,
-        found: front <= found,
-        count,
-        helped: a.wrapping_add(b).wrapping_add(c),
-    })
-}
-
-/// What came of all runs so far.
+/// What came of all jobs so far.
 #[derive(Clone, Copy)]
 struct Tally {
     /// How many jobs were run.
-    jobs: u32,
-    /// How many runs of three jobs answered otherwise than one thread.
-    wrong: u32,
+    jobs: u64,
+    /// How many of them answered otherwise than one thread.
+    wrong: u64,
     /// How many leaves helpers ran.
-    helped: u32,
+    helped: u64,
 }
 
 impl Tally {
-    /// With one run more, which is compared with that of one thread.
-    fn with(self, run: Answers, alone: Answers) -> Tally {
-        let same = run.front == alone.front && run.found && run.count == alone.count;
+    /// With one job more.
+    fn with(self, ran: &Ran, alone: &Ran, workers: u32) -> Tally {
         Tally {
-            jobs: self.jobs.wrapping_add(3),
-            wrong: if same {
-                self.wrong
-            } else {
-                self.wrong.wrapping_add(1)
-            },
-            helped: self.helped.wrapping_add(run.helped),
+            jobs: self.jobs.wrapping_add(1),
+            wrong: self
+                .wrong
+                .wrapping_add(u64::from(!is_same(ran, alone, workers))),
+            helped: self.helped.wrapping_add(helped(&ran.audit)),
         }
     }
 }
@@ -226,67 +253,86 @@ fn plan(workers: u32, level: u32) -> Option<Plan<'static, OpenGate>>
     })
 }
 
-/// Runs the jobs over the items at a level by each number of workers.
+/// Runs the three jobs by a plan and on one thread.
 fn run_all<R: Threads + Wait + Sync>(
     rt: &R,
     alloc: Global,
     items: &[i64],
-    level: u32,
     test: &AtLeast,
-    mut tally: Tally,
+    plan: &Plan<'_, OpenGate>,
+    tally: Tally,
 ) -> Result<Tally, Memory>
     requires few { length items.now ≤ 4194304 }
+    requires level { (1 ≤ plan.now.level) × (plan.now.level ≤ 64) }
+    requires workers { (1 ≤ plan.now.workers) × (plan.now.workers ≤ 64) }
 {
-    let mut alone: Option<Answers> = None;
-    for workers in WORKERS {
-        let Some(plan) = plan(workers, level) else {
-            continue;
-        };
-        let answers = run(rt, alloc, items, test, &plan)?;
-        let first = alone.unwrap_or(answers);
-        tally = tally.with(answers, first);
-        alone = Some(first);
-    }
-    Ok(tally)
+    let level = plan.level;
+    let workers = plan.workers;
+    let [a, b, c] = by_threads(rt, alloc, items, test, plan)?;
+    let [x, y, z] = by_one(alloc, items, test, level)?;
+    let tally = tally.with(&a, &x, workers);
+    let tally = tally.with(&b, &y, workers);
+    Ok(tally.with(&c, &z, workers))
 }
 
-/// Runs the jobs over the first so many of the items at each level and with each mark.
-fn run_size<R: Threads + Wait + Sync>(
-    rt: &R,
-    alloc: Global,
-    items: &[i64],
-    mut tally: Tally,
-) -> Result<Tally, Memory>
-    requires few { length items.now ≤ 4194304 }
-{
-    for turn in 0..LEVELS.len() * MARKS.len() {
-        let test = AtLeast {
-            least: MARKS[turn / LEVELS.len()],
-        };
-        let level = LEVELS[turn % LEVELS.len()];
-        tally = run_all(rt, alloc, items, level, &test, tally)?;
+/// Numbers that look as if they were drawn.
+#[derive(Drop)]
+struct Draws {
+    state: u64,
+}
+
+impl Draws {
+    /// The next number, below the limit.
+    fn below(&mut self, limit: u32) -> u32
+        requires { 1 ≤ limit }
+        ensures { result < limit }
+    {
+        self.state = self
+            .state
+            .wrapping_mul(6_364_136_223_846_793_005)
+            .wrapping_add(1_442_695_040_888_963_407);
+        ((self.state >> 33) % u64::from(limit)) as u32
     }
-    Ok(tally)
+
+    /// A number below 2^`scale` for some scale up to `most`, so that small numbers are not rare.
+    fn scaled(&mut self, most: u32) -> u32
+        requires { most ≤ 20 }
+    {
+        let scale = self.below(most + 1);
+        self.below(1 << scale)
+    }
 }
 
 fn main(rt: HostRuntime) -> io::Result<()> {
-    let mut items = Vec::with_capacity(rt.alloc(), 40_000)?;
-    for i in 0..40_000i64 {
+    let mut items = Vec::with_capacity(rt.alloc(), ITEMS as usize)?;
+    for i in 0..ITEMS {
         items.push(i % 1_000)?;
     }
+    let mut draws = Draws { state: 2_026 };
     let mut tally = Tally {
         jobs: 0,
         wrong: 0,
         helped: 0,
     };
-    for turn in 0..SIZES.len() * ROUNDS {
-        let size = SIZES[turn % SIZES.len()];
-        if size <= items.len() && size <= 40_000 {
-            tally = run_size(&rt, rt.alloc(), &items[..size], tally).unwrap_or(tally);
+    for round in 0..ROUNDS {
+        let size = draws.scaled(14) as usize;
+        let test = AtLeast {
+            least: i64::from(draws.scaled(10)),
+        };
+        let workers = if round % 32 == 0 {
+            64
+        } else {
+            1 + draws.scaled(4)
+        };
+        let Some(plan) = plan(workers, 1 + draws.below(64)) else {
+            continue;
+        };
+        if size <= items.len() && size <= 16_384 {
+            tally = run_all(&rt, rt.alloc(), &items[..size], &test, &plan, tally).unwrap_or(tally);
         }
     }
     println!(rt;
-        "{} jobs, {} runs with another answer than one thread",
+        "{} jobs, {} with another answer than one thread's",
         tally.jobs, tally.wrong
     )?;
     println!(rt; "helpers ran leaves: {}", tally.helped > 0)?;
