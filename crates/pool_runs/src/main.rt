@@ -118,7 +118,7 @@ fn by_threads<R: Threads + Wait + Sync>(
     items: &[i64],
     test: &AtLeast,
     plan: &Plan<'_, OpenGate>,
-) -> Result<[Ran; 3], Memory>
+) -> Result<(Ran, Ran, Ran), Memory>
     requires few { length items.now ≤ 4194304 }
     requires level { (1 ≤ plan.now.level) × (plan.now.level ≤ 64) }
     requires workers { (1 ≤ plan.now.workers) × (plan.now.workers ≤ 64) }
@@ -138,15 +138,20 @@ fn by_threads<R: Threads + Wait + Sync>(
     )?;
     let (front, b) = front_pooled(rt, alloc, ArraySplitter::new(items), test, &list, plan)?;
     let (sought, c) = search_pooled(rt, alloc, ArraySplitter::new(items), test, plan)?;
-    Ok([
+    Ok((
         of_sifted(alloc, sifted, a),
         of_front(front, b),
         of_sought(alloc, items, test.least, sought, c),
-    ])
+    ))
 }
 
 /// The three jobs on one thread.
-fn by_one(alloc: Global, items: &[i64], test: &AtLeast, level: u32) -> Result<[Ran; 3], Memory>
+fn by_one(
+    alloc: Global,
+    items: &[i64],
+    test: &AtLeast,
+    level: u32,
+) -> Result<(Ran, Ran, Ran), Memory>
     requires few { length items.now ≤ 4194304 }
     requires level { (1 ≤ level) × (level ≤ 64) }
 {
@@ -166,11 +171,11 @@ fn by_one(alloc: Global, items: &[i64], test: &AtLeast, level: u32) -> Result<[R
     )?;
     let (front, b) = front_alone(alloc, ArraySplitter::new(items), test, &list, level, gate)?;
     let (sought, c) = search_alone(alloc, ArraySplitter::new(items), test, level, gate)?;
-    Ok([
+    Ok((
         of_sifted(alloc, sifted, a),
         of_front(front, b),
         of_sought(alloc, items, test.least, sought, c),
-    ])
+    ))
 }
 
 /// Whether a leaf ends there.
@@ -268,8 +273,8 @@ fn run_all<R: Threads + Wait + Sync>(
 {
     let level = plan.level;
     let workers = plan.workers;
-    let [a, b, c] = by_threads(rt, alloc, items, test, plan)?;
-    let [x, y, z] = by_one(alloc, items, test, level)?;
+    let (a, b, c) = by_threads(rt, alloc, items, test, plan)?;
+    let (x, y, z) = by_one(alloc, items, test, level)?;
     let tally = tally.with(&a, &x, workers);
     let tally = tally.with(&b, &y, workers);
     Ok(tally.with(&c, &z, workers))
@@ -322,7 +327,7 @@ fn main(rt: HostRuntime) -> io::Result<()> {
         let workers = if round % 32 == 0 {
             64
         } else {
-            1 + draws.scaled(4)
+            draws.scaled(4).wrapping_add(1)
         };
         let Some(plan) = plan(workers, 1 + draws.below(64)) else {
             continue;
