@@ -403,6 +403,39 @@ fn the_audit_has_the_leaves_that_were_run(rt: HostRuntime) -> Result<(), Fail> {
     Ok(())
 }
 
+// Where the first leaf begins that another seat ran than the one that ran the first items, in a run by two workers of whom
+// one waits for the other.
+fn first_stolen<R: Threads + Wait + Sync>(
+    rt: &R,
+    alloc: Global,
+    n: u32,
+) -> Result<Option<u32>, Memory> {
+    let Some(job) = numbers(n) else {
+        return Ok(None);
+    };
+    let gate = Noting::new(alloc)?;
+    let plan = Plan {
+        workers: 2,
+        level: 8,
+        gate: &gate,
+    };
+    let ran = ran_by(rt, alloc, &job, &plan)?;
+    let leaves = ran.audit.leaves();
+    for leaf in leaves {
+        if leaf.seat != leaves[0].seat && leaf.turn == 0 {
+            return Ok(Some(leaf.lo));
+        }
+    }
+    Ok(None)
+}
+
+#[test]
+fn a_thief_takes_the_half_that_is_farthest(rt: HostRuntime) -> Result<(), Fail> {
+    assert_eq!(rt; first_stolen(&rt, rt.alloc(), 1_000)?, Some(500));
+    assert_eq!(rt; first_stolen(&rt, rt.alloc(), 4_096)?, Some(2_048));
+    Ok(())
+}
+
 // Whether 64 workers at level 64 answer what one does, leaf by leaf.
 fn most_workers_agree<R: Threads + Wait + Sync>(
     rt: &R,
