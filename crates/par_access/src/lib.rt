@@ -28,11 +28,7 @@ mod faults;
 mod folds;
 mod gathering;
 mod indexes;
-#[cfg(test)]
-mod pooled_tests;
 mod searches;
-#[cfg(test)]
-mod tests;
 
 pub use counts::{count, count_alone};
 pub use folds::{

@@ -14,6 +14,3 @@ pub use group::{GroupCombiner, group_bucket};
 pub use map::{MapCombiner, map_bucket};
 pub use pairs::{BucketCombiner, PairList};
 pub use set::SetCombiner;
-
-#[cfg(test)]
-mod tests;

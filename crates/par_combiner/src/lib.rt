@@ -19,6 +19,3 @@ pub use chunks::Chunks;
 pub use combiner::Combiner;
 pub use faulted::{Faulted, Yield};
 pub use vector::VectorCombiner;
-
-#[cfg(test)]
-mod tests;

@@ -20,8 +20,6 @@ mod memory_sink;
 mod shelf;
 mod sink;
 mod std_sink;
-#[cfg(test)]
-mod tests;
 mod whole;
 
 pub use failed::Failed;

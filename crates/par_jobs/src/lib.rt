@@ -28,15 +28,11 @@ mod keeping;
 mod last;
 mod looking;
 mod low;
-#[cfg(test)]
-mod pooled_tests;
 mod runs;
 mod search;
 mod sift;
 mod span;
 mod stock;
-#[cfg(test)]
-mod tests;
 
 pub use builder::Builder;
 pub use front::{Front, FrontJob};

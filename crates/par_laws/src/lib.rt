@@ -45,6 +45,3 @@ pub use words::Words;
 
 /// No collection has more items.
 pub const MAX_ITEMS: u32 = 4_194_304;
-
-#[cfg(test)]
-mod tests;

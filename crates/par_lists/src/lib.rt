@@ -14,6 +14,3 @@ mod places;
 
 pub use laws::{cut_laws, fold_laws, group_laws, scan_laws, search_laws};
 pub use places::{index_of, place_of};
-
-#[cfg(test)]
-mod tests;

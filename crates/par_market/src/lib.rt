@@ -23,6 +23,3 @@ pub use locked::{LockedMarket, LockedSeat};
 pub use market::{Market, find};
 pub use rule::Entry;
 pub use ticket::{Ticket, Unposted};
-
-#[cfg(test)]
-mod tests;

@@ -14,6 +14,3 @@ pub use row::{Row, Values};
 pub use schema::{Column, ColumnKind, Schema};
 pub use table::Table;
 pub use value::Value;
-
-#[cfg(test)]
-mod tests;

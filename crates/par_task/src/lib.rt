@@ -16,8 +16,6 @@ mod job;
 mod marked;
 mod run;
 mod tails;
-#[cfg(test)]
-mod tests;
 
 pub use audit::{Audit, Leaf};
 pub use cutting::chain;

@@ -30,12 +30,8 @@ mod flat;
 mod flattening;
 mod fronts;
 mod gathering;
-#[cfg(test)]
-mod pooled_tests;
 mod reversed;
 mod stop;
-#[cfg(test)]
-mod tests;
 
 pub use choices::{
     collect, collect_alone, filter, filter_alone, filter_not, filter_not_alone, partition,

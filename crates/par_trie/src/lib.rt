@@ -25,6 +25,3 @@ mod wide;
 pub use bucket::trie_bucket;
 pub use splitter::TrieSplitter;
 pub use trie::HashTrie;
-
-#[cfg(test)]
-mod tests;

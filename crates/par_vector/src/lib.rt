@@ -13,6 +13,3 @@ mod vector;
 
 pub use splitter::VectorSplitter;
 pub use vector::RadixVector;
-
-#[cfg(test)]
-mod tests;

@@ -27,8 +27,6 @@ mod pairs;
 mod rows;
 mod searches;
 mod strings;
-#[cfg(test)]
-mod tests;
 mod texts;
 
 pub use audits::{StageAudit, write_audits};

@@ -11,6 +11,3 @@ mod table;
 
 pub use stop::{DataStop, Flaw};
 pub use table::{MAX_RECORDS, read_table};
-
-#[cfg(test)]
-mod tests;

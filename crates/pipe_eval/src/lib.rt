@@ -30,5 +30,3 @@ pub use maker::Maker;
 pub use number::Number;
 pub use shown::Shown;
 
-#[cfg(test)]
-mod tests;

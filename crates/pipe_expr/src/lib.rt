@@ -20,5 +20,3 @@ pub use expr::{Expr, Op};
 pub use parser::{ParseError, expression, int, name, whole_expression};
 pub use token::{Reserved, Token, Verb};
 
-#[cfg(test)]
-mod tests;

@@ -6,6 +6,3 @@
 mod spelling;
 
 pub use spelling::{Spelling, int_of};
-
-#[cfg(test)]
-mod tests;

@@ -11,5 +11,3 @@ mod printing;
 
 pub use printing::print;
 
-#[cfg(test)]
-mod tests;

@@ -19,5 +19,3 @@ pub use reading::parse;
 pub use refusal::{ParseStop, Refusal};
 pub use schema::schema_after;
 
-#[cfg(test)]
-mod tests;

@@ -23,7 +23,3 @@ pub use outcome::{Counted, Outcome, status};
 pub use program::parcoll;
 pub use run::{check_alone, run_alone_main, run_main};
 
-#[cfg(test)]
-mod gated_tests;
-#[cfg(test)]
-mod tests;

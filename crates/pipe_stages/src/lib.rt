@@ -25,5 +25,3 @@ pub use step::{is_built, run_step, run_step_alone};
 pub use stepped::Stepped;
 pub use stop::StepStop;
 
-#[cfg(test)]
-mod tests;

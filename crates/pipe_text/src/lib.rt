@@ -17,6 +17,3 @@ pub use front::is_word_text;
 pub use laws::line_laws;
 pub use lexeme::{Lexeme, Symbol};
 pub use line::{LineFault, MAX_TOKENS, first_line, read_line};
-
-#[cfg(test)]
-mod tests;

@@ -24,5 +24,3 @@ pub use command::Command;
 pub use laws::word_laws;
 pub use reader::read_words;
 
-#[cfg(test)]
-mod tests;

@@ -1,9 +1,0 @@
-use Rattle.std.proofs.Common.{◌≡◌, ◌++◌, ◌-◌, ◌≤◌, [], replicate}
-use Rattle.par_flat.proofs.tests.united.Given as goal
-
--- the first block, and the empty blocks so far
-abbrev pub invariant-loop-bucket : goal.invariant-loop-bucket
-invariant-loop-bucket l = record {
-  blocks_are : l.blocks.items ≡ l.initial.blocks.items ++ replicate (l.bucket - 1) [];
-  counted : 1 ≤ l.bucket;
-}

@@ -1,5 +1,0 @@
-use Rattle.std.proofs.Common.{length}
-use Rattle.par_splitter.proofs.tests.listed.Given as goal
-
-abbrev pub decreases-loop-item : goal.decreases-loop-item
-decreases-loop-item g l = length (g.S.Splitter.items l.rest)
