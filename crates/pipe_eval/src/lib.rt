@@ -29,4 +29,3 @@ pub use key::Key;
 pub use maker::Maker;
 pub use number::Number;
 pub use shown::Shown;
-

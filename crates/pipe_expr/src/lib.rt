@@ -19,4 +19,3 @@ pub use divisor::divides_by_ints;
 pub use expr::{Expr, Op};
 pub use parser::{ParseError, expression, int, name, whole_expression};
 pub use token::{Reserved, Token, Verb};
-

@@ -10,4 +10,3 @@ mod piece;
 mod printing;
 
 pub use printing::print;
-

@@ -18,4 +18,3 @@ pub use pipeline::Pipeline;
 pub use reading::parse;
 pub use refusal::{ParseStop, Refusal};
 pub use schema::schema_after;
-

@@ -22,4 +22,3 @@ mod stages;
 pub use outcome::{Counted, Outcome, status};
 pub use program::parcoll;
 pub use run::{check_alone, run_alone_main, run_main};
-

@@ -24,4 +24,3 @@ pub use picks::CopySplitter;
 pub use step::{is_built, run_step, run_step_alone};
 pub use stepped::Stepped;
 pub use stop::StepStop;
-

@@ -23,4 +23,3 @@ mod reader;
 pub use command::Command;
 pub use laws::word_laws;
 pub use reader::read_words;
-
