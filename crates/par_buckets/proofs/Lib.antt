@@ -2,4 +2,3 @@ pub mod Held
 pub mod Values
 pub mod Sets
 pub mod Filling
-pub mod Alike

@@ -4,4 +4,3 @@ pub mod Doubling
 pub mod Members
 pub mod Blocks
 pub mod Unions
-pub mod Alike

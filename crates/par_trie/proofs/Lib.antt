@@ -3,4 +3,3 @@ pub mod Few
 pub mod Kids
 pub mod Rows
 pub mod Slots
-pub mod United

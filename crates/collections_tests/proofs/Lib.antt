@@ -1,0 +1,3 @@
+pub mod FlatAlike
+pub mod TrieUnited
+pub mod BucketsAlike
