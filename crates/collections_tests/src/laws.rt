@@ -4,8 +4,8 @@ ghost use Rattle.par_laws.specs.declared.test.Verdict.TheVariants as verdicts;
 ghost use Rattle.par_laws.specs.declared.guard.Made.TheVariants as made;
 
 use par_laws::{
-    Both, Concat, Count, Gather, Greatest, Guard, Guarded, Joined, Keep, KeyOf, Least, Made,
-    Mapper, Memory, Never, Not, Probe, Product, Shown, Sum, Test, Verdict, Words, mix,
+    Both, Concat, Count, Gather, Greatest, Guard, Guarded, HashKey, Joined, Keep, KeyOf, Least,
+    Made, Mapper, Memory, Never, Not, Probe, Product, Shown, Sum, Test, Verdict, Words, mix,
 };
 use std::alloc::Global;
 use std::cmp::Ordering;

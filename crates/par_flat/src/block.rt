@@ -52,11 +52,6 @@ impl<K: HashKey> Block<K> {
         self.room
     }
 
-    #[cfg(test)]
-    pub(crate) fn leftovers(&self) -> usize {
-        self.keys.index().leftovers()
-    }
-
     /// The keys, as the map to units that they are kept in.
     pub(crate) fn into_keys(self) -> Entries<K, (), BlockSlots>
         ensures { keys_of result ≡ self }

@@ -49,13 +49,6 @@ impl BlockSlots {
     }
 }
 
-#[cfg(test)]
-impl BlockSlots {
-    pub(crate) fn leftovers(&self) -> usize {
-        self.slots.len() - self.size as usize
-    }
-}
-
 impl Index for BlockSlots {
     ghost use Rattle.par_flat.specs.Slots.{is_in, taken};
 
