@@ -1,6 +1,5 @@
 -- The item behind a cut.
-use Rattle.std.proofs.Common.{◌≡◌, ◌∙◌, ◌+◌, ◌<◌, ℕ, min, sym, ap, List, ◌∷◌, ◌++◌, length, length-append, map, false, arith}
-use Rattle.std.specs.List.{get_or}
+use Rattle.std.proofs.Common.{◌≡◌, ◌∙◌, ◌+◌, ◌<◌, ℕ, min, get_or, sym, ap, List, ◌∷◌, ◌++◌, length, length-append, map, false, arith}
 use Rattle.std.proofs.lemmas.List.{get_or-map, length-map}
 use Rattle.std.proofs.Math.Seq.{get_or-append_seam}
 use Rattle.par_laws.specs.declared.test.Verdict.{Verdict}
