@@ -1,6 +1,6 @@
 -- What the bench's test and mappers find of a number.
-use Rattle.std.specs.Prelude.{ℤ, pos, int_le, if◌then◌else◌}
-use Rattle.par_laws.specs.Wrapping.{wrapped_product, wrapped_sum}
+use Rattle.std.specs.Prelude.{ℤ, int_le, if◌then◌else◌}
+use Rattle.par_laws.specs.Wrapping.{wrapped_product}
 use Rattle.par_laws.specs.declared.test.Verdict.{Verdict}
 use Rattle.par_laws.specs.declared.test.Verdict.TheVariants.{Pass, Fail}
 
@@ -8,9 +8,9 @@ use Rattle.par_laws.specs.declared.test.Verdict.TheVariants.{Pass, Fail}
 abbrev pub at_least : ℤ → ℤ → Verdict
 at_least least x = if int_le least x then Pass else Fail
 
--- one more than the square, wrapped
+-- the cube of a number, wrapped
 abbrev pub stirred : ℤ → ℤ
-stirred x = wrapped_sum (wrapped_product x x) (pos 1)
+stirred x = wrapped_product (wrapped_product x x) x
 
 -- a number stirred four times
 abbrev pub stirred_more : ℤ → ℤ

@@ -4,7 +4,8 @@
 //! worker each was.
 #![tactic(auto)]
 
-ghost use Rattle.std.specs.Prelude.{◌≡◌, ◌≤◌, ◌×◌, length};
+ghost use Rattle.std.specs.Prelude.{◌≡◌, ◌≤◌, length};
+ghost use Rattle.par_laws.specs.Wrapping.{wrapped_product};
 ghost use Rattle.bench_pool.specs.Passing.{stirred, stirred_more};
 
 use par_access::{count, index_where, last_index_where, sum};
@@ -16,7 +17,9 @@ use par_splitter::{ArraySplitter, Splitter};
 use par_transform::{filter, map};
 use std::alloc::Global;
 use std::io;
-use std::time::{Duration, Instant};
+use std::sync::Wait;
+use std::thread::Threads;
+use std::time::{Clock, Duration, Instant};
 
 const ITEMS: usize = 4_194_304;
 
@@ -56,10 +59,16 @@ impl<'a> Mapper<&'a i64, i64> for Itself {
     }
 }
 
+fn times(a: i64, b: i64) -> i64
+    ensures { result ≡ wrapped_product a b }
+{
+    a.wrapping_mul(b)
+}
+
 fn stirred(x: i64) -> i64
     ensures { result ≡ stirred x }
 {
-    x.wrapping_mul(x).wrapping_add(1)
+    times(times(x, x), x)
 }
 
 fn stirred_more(x: i64) -> i64
@@ -111,11 +120,16 @@ fn size(kept: Tried<Vec<i64>>) -> i64 {
 }
 
 /// The answer, by the library's call.
-fn answer(rt: &HostRuntime, question: Question, items: &[i64], workers: u32) -> Result<i64, Memory>
+fn answer<R: Threads + Wait + Sync>(
+    rt: &R,
+    alloc: Global,
+    question: Question,
+    items: &[i64],
+    workers: u32,
+) -> Result<i64, Memory>
     requires few { length items.now ≤ 4194304 }
     requires workers { (1 ≤ workers) × (workers ≤ 64) }
 {
-    let alloc = rt.alloc();
     let source = ArraySplitter::new(items);
     let plan = Plan {
         workers,
@@ -176,30 +190,48 @@ fn hundredths(time: Duration, of: Duration) -> u128 {
     time.as_micros().wrapping_mul(100) / whole
 }
 
-/// Asks a question by 1 worker and by more, in turn and many times, and tells each answer and the best times.
-fn ask(rt: &HostRuntime, name: &str, question: Question, items: &[i64]) -> io::Result<()>
-    requires { length items.now ≤ 4194304 }
+/// What a call gave by so many workers, and its best time.
+#[derive(Clone, Copy, Debug)]
+struct Asked {
+    workers: u32,
+    found: i64,
+    best: Duration,
+}
+
+/// Asks a question many times.
+fn ask<R: Threads + Wait + Sync + Clock>(
+    rt: &R,
+    alloc: Global,
+    question: Question,
+    items: &[i64],
+    workers: u32,
+) -> io::Result<Asked>
+    requires few { length items.now ≤ 4194304 }
+    requires workers { (1 ≤ workers) × (workers ≤ 64) }
 {
-    let mut alone = Duration::MAX;
-    for workers in 1..=MOST_WORKERS {
-        let mut best = Duration::MAX;
-        let mut found = 0;
-        for _ in 0..ROUNDS {
-            let start = Instant::now(rt)?;
-            found = answer(rt, question, items, workers).unwrap_or(-3);
-            best = best.min(start.elapsed(rt)?);
-        }
-        if workers == 1 {
-            alone = best;
-        }
-        println!(rt; "{name} by {workers}: {found}")?;
-        eprintln!(rt;
-            "{name} by {workers}: {} us, {} hundredths as fast",
-            best.as_micros(),
-            hundredths(alone, best)
-        )?;
+    let mut best = Duration::MAX;
+    let mut found = 0;
+    for _ in 0..ROUNDS {
+        let start = Instant::now(rt)?;
+        found = answer(rt, alloc, question, items, workers).unwrap_or(-3);
+        best = best.min(start.elapsed(rt)?);
     }
-    Ok(())
+    Ok(Asked {
+        workers,
+        found,
+        best,
+    })
+}
+
+/// Tells what a call gave, and how long it took beside one worker.
+fn tell(rt: &HostRuntime, name: &str, asked: Asked, alone: Asked) -> io::Result<()> {
+    println!(rt; "{name} by {}: {}", asked.workers, asked.found)?;
+    eprintln!(rt;
+        "{name} by {}: {} us, {} hundredths as fast",
+        asked.workers,
+        asked.best.as_micros(),
+        hundredths(alone.best, asked.best)
+    )
 }
 
 fn main(rt: HostRuntime) -> io::Result<()> {
@@ -220,7 +252,12 @@ fn main(rt: HostRuntime) -> io::Result<()> {
         ("last of all", Question::LastOf(i64::MIN)),
     ];
     for (name, question) in questions {
-        ask(&rt, name, question, items.as_slice())?;
+        let alone = ask(&rt, rt.alloc(), question, items.as_slice(), 1)?;
+        tell(&rt, name, alone, alone)?;
+        for workers in 2..=MOST_WORKERS {
+            let asked = ask(&rt, rt.alloc(), question, items.as_slice(), workers)?;
+            tell(&rt, name, asked, alone)?;
+        }
     }
     Ok(())
 }
