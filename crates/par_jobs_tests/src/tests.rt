@@ -2,7 +2,7 @@
 ghost use Rattle.std.specs.Prelude.{◌≡◌, ◌≤◌, length, map, true, Some, IfSome};
 ghost use Rattle.par_signal.specs.Seen.{Seen};
 ghost use Rattle.par_laws.specs.Marks.{IsMarked};
-ghost use Rattle.par_task.specs.Marking.{low_flag, marks_of};
+ghost use Rattle.par_task.specs.Marking.{halts, low_flag, marks_of};
 
 use par_edge::OpenGate;
 use par_jobs::{
@@ -392,17 +392,23 @@ impl<'a, S: Splitter> Splitter for Lowering<'a, S> {
     }
 }
 
+// Whether the verdict is Pass or Fault.
+fn is_halt(verdict: Verdict) -> bool
+    ensures { result ≡ halts verdict }
+{
+    match verdict {
+        Verdict::Pass | Verdict::Fault(_) => true,
+        Verdict::Fail => false,
+    }
+}
+
 // Whether the item at an index is marked.
 fn is_marked_at<S: Precise, P: Test<S::Item>>(source: &S, test: &P, at: u32) -> bool
     ensures { result ≡ true → IsMarked (marks_of low_flag (map (P.verdict test.now) (S.items source.now))) at }
 {
     let (_, mut rest) = source.dup().cut_at(at);
     match rest.next() {
-        Some(item) => match test.test(&item) {
-            Verdict::Pass => true,
-            Verdict::Fail => false,
-            Verdict::Fault(_) => true,
-        },
+        Some(item) => is_halt(test.test(&item)),
         None => false,
     }
 }
