@@ -77,7 +77,7 @@ fn stirred_more(x: i64) -> i64
     stirred(stirred(stirred(stirred(x))))
 }
 
-/// A number that takes some 50 ns to make.
+/// A number that takes some 25 ns to make.
 #[derive(Clone, Copy, Debug)]
 struct Churned;
 
