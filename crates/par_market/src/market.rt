@@ -1,7 +1,8 @@
 //! What a market is, and how a seat finds a ticket.
-ghost use Rattle.std.specs.Prelude.{◌≡◌, ◌<◌, ℕ, IfSome, IfNone};
+ghost use Rattle.std.specs.Prelude.{◌≡◌, ◌<◌, ◌≤◌, ◌-◌, ◌%◌, ◌^◌, ℕ, IfSome, IfNone};
+ghost use Rattle.std.specs.Int.{leading_zeros, w32};
 ghost use Rattle.par_edge.specs.Count.{Rose};
-ghost use Rattle.par_market.specs.Markets.{NoneFell};
+ghost use Rattle.par_market.specs.Markets.{AreEmpty};
 
 use crate::ticket::{Ticket, Unposted};
 use std::sync::Wait;
@@ -74,8 +75,45 @@ pub trait Market {
             (λ t. finds (known seat.old) k t (known seat.new)) };
 }
 
-/// Looks at the seat's own queue, and then at the others in order, until one has a ticket. `None` comes only where the
-/// seat's count of empty looks of each queue rose. Linear in the number of queues.
+// The queue that a seat looks at first behind its own: that of the seat whose number lacks its highest binary digit.
+// So seats that start one after the other halve what is left: seat 1 takes half of what seat 0 has, seats 2 and 3 half of
+// what 0 and 1 have, seats 4 to 7 half of what 0 to 3 have.
+fn first_behind(own: u32) -> u32
+    ensures first { result ≡ own % 2 ^ (31 - leading_zeros w32 own) }
+    ensures within { result ≤ own }
+{
+    own % (1 << 31u32.saturating_sub(own.leading_zeros()))
+}
+
+// Looks at the queues from `lo` up to `hi`, but not at the seat's own again, until one has a ticket.
+fn look_among<M: Market, R: Wait>(
+    rt: &R,
+    market: &M,
+    seat: &mut M::Seat,
+    own: u32,
+    lo: u32,
+    hi: u32,
+) -> Option<Ticket>
+    requires of { M.is_of market.now seat.old }
+    requires queues { hi ≤ M.width market.now }
+    ensures of { M.is_of market.now seat.new }
+    ensures none { IfNone result (AreEmpty own lo hi (M.empty seat.old) (M.empty seat.new) × (M.known seat.new ≡ M.known seat.old)) }
+    ensures some { IfSome result (λ t. (k : ℕ) × (k < M.width market.now) × M.finds (M.known seat.old) k t (M.known seat.new)) }
+{
+    for k in lo..hi {
+        if k == own {
+            continue;
+        }
+        if let Some(ticket) = market.look(rt, seat, k) {
+            return Some(ticket);
+        }
+    }
+    None
+}
+
+/// Looks at the seat's own queue, and then at the others in order, round from that of the seat whose number lacks the
+/// highest binary digit of its own, until one has a ticket. `None` comes only where the seat's count of empty looks of each
+/// queue rose. Linear in the number of queues.
 pub fn find<M: Market, R: Wait>(rt: &R, market: &M, seat: &mut M::Seat) -> Option<Ticket>
     requires { M.is_of market.now seat.old }
     ensures of { M.is_of market.now seat.new }
@@ -86,13 +124,9 @@ pub fn find<M: Market, R: Wait>(rt: &R, market: &M, seat: &mut M::Seat) -> Optio
     if let Some(ticket) = market.look(rt, seat, own) {
         return Some(ticket);
     }
-    for k in 0..market.queues() {
-        if k == own {
-            continue;
-        }
-        if let Some(ticket) = market.look(rt, seat, k) {
-            return Some(ticket);
-        }
+    let first = first_behind(own);
+    if let Some(ticket) = look_among(rt, market, seat, own, first, market.queues()) {
+        return Some(ticket);
     }
-    None
+    look_among(rt, market, seat, own, 0, first)
 }

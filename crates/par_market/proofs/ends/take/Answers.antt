@@ -1,4 +1,4 @@
-use Rattle.std.proofs.Common.{◌≡◌, ◌∙◌, ap, refl, subst}
+use Rattle.std.proofs.Common.{◌∙◌, ap, refl, subst}
 use Rattle.par_market.specs.declared.rule.Account.{Account}
 use Rattle.par_market.specs.Deques.{Above, with_found}
 use Rattle.par_market.proofs.Steps.{takes}

@@ -1,4 +1,4 @@
-use Rattle.std.proofs.Common.{rules, arith, ◌≡◌, ◌+◌, ℕ, [], ◌∷◌, ◌++◌, true, ◌∙◌, sym, ap, length, map, drop, List}
+use Rattle.std.proofs.Common.{rules, arith, ◌≡◌, [], true, ◌∙◌, sym, ap, length, map, drop, List}
 use Rattle.std.proofs.lemmas.List.{drop-map, drop-drop, length_push}
 use Rattle.std.proofs.lemmas.List.Elements.{All-drop}
 use Rattle.crossbeam_deque.specs.Handles.{worker_deque, worker_view}

@@ -1,8 +1,5 @@
-use Rattle.std.proofs.Common.{rules, arith, ◌≡◌, ◌≤◌, ◌<◌, ℕ, ◌∙◌, sym, ap, subst, length, refl}
+use Rattle.std.proofs.Common.{arith, ◌<◌, ◌∙◌, sym, ap, length}
 use Rattle.std.proofs.lemmas.List.{length-map}
-use Rattle.par_edge.specs.Count.{Rose, raised}
-use Rattle.par_market.specs.Markets.{NoneFell}
-use Rattle.par_market.specs.Seats.{deques_of, lane_deques}
 use Rattle.crossbeam_deque.specs.Handles.{worker_view}
 use Rattle.par_market.proofs.Lanes.{id_of, is_pass, deques_after, bare_after, count_after, looked}
 use Rattle.par_market.proofs.deque.DequeMarketMarket.look.Goals as goal

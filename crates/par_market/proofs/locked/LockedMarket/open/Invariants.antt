@@ -1,4 +1,4 @@
-use Rattle.std.proofs.Common.{◌≡◌, length, vec_len}
+use Rattle.std.proofs.Common.{◌≡◌, length}
 use Rattle.par_market.proofs.locked.LockedMarket.open.Given as goal
 
 abbrev pub invariant-loop : goal.invariant-loop
