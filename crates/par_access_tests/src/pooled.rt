@@ -1,7 +1,7 @@
 //! What no clause says of the calls on several threads: that they end, and answer where there is memory.
 ghost use Rattle.std.specs.Prelude.{◌≡◌, ◌≤◌};
 
-use crate::tests::{Alike, Rule, Same, There, from_to, tested};
+use crate::tests::{Alike, There};
 use par_access::{
     aggregate, count, exists, find, fold, forall, index_where, last_index_where, max, min, product,
     reduce_option, same_elements, segment_length, sum,
@@ -15,6 +15,7 @@ use std::process::Abort;
 use std::sync::Wait;
 use std::test::Fail;
 use std::thread::Threads;
+use test_rules::{Rule, Same, from_to, tested};
 
 /// By how many workers each call is run.
 const WORKERS: [u32; 4] = [1, 2, 4, 64];

@@ -1,7 +1,6 @@
 //! What no clause says of the runs on several threads: that they end, and answer where there is memory.
 ghost use Rattle.std.specs.Prelude.{◌≡◌, ◌≤◌};
 
-use crate::tests::{Rule, Same, from_to};
 use par_edge::OpenGate;
 use par_jobs::{
     Counting, Folding, Listing, Sifted, Sought, front_pooled, gather_pooled, last_pooled,
@@ -16,6 +15,7 @@ use std::process::Abort;
 use std::sync::Wait;
 use std::test::Fail;
 use std::thread::Threads;
+use test_rules::{Rule, Same, from_to};
 
 /// Passes 7 and more.
 const FROM_SEVEN: Rule = Rule {

@@ -16,56 +16,7 @@ use par_task::{Audit, Leaf, Marked, Place, run_leaf};
 use std::alloc::Global;
 use std::marker::PhantomData;
 use std::test::Fail;
-
-/// Passes `least` and more, but has no truth value for `faulty`.
-#[derive(Clone, Copy, Drop)]
-pub(crate) struct Rule {
-    pub(crate) least: i64,
-    pub(crate) faulty: i64,
-}
-
-impl Test<i64> for Rule {
-    ghost use Rattle.std.specs.Prelude.{cond, int_lt};
-    ghost use Rattle.std.specs.Ordering.{int_eq};
-    ghost use Rattle.par_laws.specs.declared.test.Verdict.TheVariants.{Pass, Fail, Fault};
-
-    ghost verdict = { λ t x. cond (int_eq x t.faulty) (Fault 7) (cond (int_lt x t.least) Fail Pass) };
-
-    fn test(&self, item: &i64) -> Verdict {
-        if *item == self.faulty {
-            Verdict::Fault(7)
-        } else if *item < self.least {
-            Verdict::Fail
-        } else {
-            Verdict::Pass
-        }
-    }
-}
-
-pub(crate) struct Same;
-
-impl Mapper<i64, i64> for Same {
-    ghost mapped = { λ _ x. x };
-
-    fn map(&self, _alloc: Global, item: &i64) -> Result<i64, Memory> {
-        Ok(*item)
-    }
-}
-
-// The numbers from a on and before b, if they are few.
-pub(crate) fn from_to(a: i64, b: i64) -> Option<RangeSplitter>
-    ensures place { IfSome result (λ s. ⟦<RangeSplitter as Splitter>⟧.lo s ≡ 0) }
-    ensures few { IfSome result (λ s. length (⟦<RangeSplitter as Splitter>⟧.items s) ≤ 3000) }
-{
-    if range_count(a, b, 1) > 3000 {
-        return None;
-    }
-    let source = RangeSplitter::new(a, b, 1);
-    if source.remaining() > 3000 {
-        return None;
-    }
-    Some(source)
-}
+use test_rules::{Rule, Same, from_to};
 
 fn front(
     alloc: Global,

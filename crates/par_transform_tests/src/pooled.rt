@@ -1,7 +1,7 @@
 //! What no clause says of the calls on several threads: that they end, and answer where there is memory.
 ghost use Rattle.std.specs.Prelude.{◌≡◌, ◌≤◌};
 
-use crate::tests::{Ints, Pairs, Rule, Same, Square, Twice, are_got, few, is_got, tested};
+use crate::tests::{Ints, Pairs, Square, Twice, are_got, is_got};
 use par_edge::OpenGate;
 use par_laws::Not;
 use par_pool::Plan;
@@ -15,6 +15,7 @@ use std::process::Abort;
 use std::sync::Wait;
 use std::test::Fail;
 use std::thread::Threads;
+use test_rules::{Rule, Same, stepping, tested};
 
 /// By how many workers each call is run.
 const WORKERS: [u32; 4] = [1, 2, 4, 64];
@@ -39,7 +40,7 @@ fn choices_by<R: Threads + Wait + Sync + Abort>(
     requires workers { (1 ≤ plan.now.workers) × (plan.now.workers ≤ 64) }
     requires level { (1 ≤ plan.now.level) × (plan.now.level ≤ 64) }
 {
-    let source = few(0, 20, 1).ok_or("few")?;
+    let source = stepping(0, 20, 1).ok_or("few")?;
     let (kept, audit) = filter::<RangeSplitter, Ints, OpenGate, Rule, Same, R>(
         rt,
         alloc,
@@ -88,7 +89,7 @@ fn fronts_by<R: Threads + Wait + Sync + Abort>(
     requires level { (1 ≤ plan.now.level) × (plan.now.level ≤ 64) }
 {
     let below = Not { inner: FROM_SEVEN };
-    let source = few(0, 20, 1).ok_or("few")?;
+    let source = stepping(0, 20, 1).ok_or("few")?;
     let (front, _) = take_while::<RangeSplitter, Ints, OpenGate, Not<Rule>, Same, R>(
         rt,
         alloc,
@@ -122,7 +123,7 @@ fn each_by<R: Threads + Wait + Sync + Abort>(
     requires workers { (1 ≤ plan.now.workers) × (plan.now.workers ≤ 64) }
     requires level { (1 ≤ plan.now.level) × (plan.now.level ≤ 64) }
 {
-    let source = few(0, 5, 1).ok_or("few")?;
+    let source = stepping(0, 5, 1).ok_or("few")?;
     let (made, _) = map::<RangeSplitter, Ints, OpenGate, Square, R>(
         rt,
         alloc,
@@ -157,8 +158,8 @@ fn pairs_by<R: Threads + Wait + Sync + Abort>(
     requires workers { (1 ≤ plan.now.workers) × (plan.now.workers ≤ 64) }
     requires level { (1 ≤ plan.now.level) × (plan.now.level ≤ 64) }
 {
-    let source = few(0, 5, 1).ok_or("few")?;
-    let other = few(10, 13, 1).ok_or("few")?;
+    let source = stepping(0, 5, 1).ok_or("few")?;
+    let other = stepping(10, 13, 1).ok_or("few")?;
     let (made, _) = zip::<RangeSplitter, Pairs, OpenGate, RangeSplitter, Same, R>(
         rt, alloc, source, other, &Same, plan,
     )?;
@@ -166,7 +167,7 @@ fn pairs_by<R: Threads + Wait + Sync + Abort>(
         made.as_slice(),
         [(0i64, 10i64), (1, 11), (2, 12)].as_slice()
     );
-    let source = few(7, 10, 1).ok_or("few")?;
+    let source = stepping(7, 10, 1).ok_or("few")?;
     let (made, _) = zip_with_index::<RangeSplitter, Pairs, OpenGate, Same, R>(
         rt, alloc, source, &Same, plan,
     )?;

@@ -13,35 +13,11 @@ use par_transform::{
 };
 use std::alloc::Global;
 use std::test::Fail;
+use test_rules::{Rule, Same, stepping, tested};
 
 pub(crate) type Ints = ArrayCombiner<i64>;
 
 pub(crate) type Pairs = ArrayCombiner<(i64, i64)>;
-
-/// Passes `least` and more, but has no truth value for `faulty`.
-#[derive(Clone, Copy, Drop)]
-pub(crate) struct Rule {
-    pub(crate) least: i64,
-    pub(crate) faulty: i64,
-}
-
-impl Test<i64> for Rule {
-    ghost use Rattle.std.specs.Prelude.{cond, int_lt};
-    ghost use Rattle.std.specs.Ordering.{int_eq};
-    ghost use Rattle.par_laws.specs.declared.test.Verdict.TheVariants.{Pass, Fail, Fault};
-
-    ghost verdict = { λ t x. cond (int_eq x t.faulty) (Fault 7) (cond (int_lt x t.least) Fail Pass) };
-
-    fn test(&self, item: &i64) -> Verdict {
-        if *item == self.faulty {
-            Verdict::Fault(7)
-        } else if *item < self.least {
-            Verdict::Fail
-        } else {
-            Verdict::Pass
-        }
-    }
-}
 
 /// Passes three numbers.
 #[derive(Clone, Copy, Drop)]
@@ -68,24 +44,6 @@ impl Test<i64> for OneOf {
         } else {
             Verdict::Fail
         }
-    }
-}
-
-pub(crate) struct Same;
-
-impl Mapper<i64, i64> for Same {
-    ghost mapped = { λ _ x. x };
-
-    fn map(&self, _alloc: Global, item: &i64) -> Result<i64, Memory> {
-        Ok(*item)
-    }
-}
-
-impl Mapper<(i64, i64), (i64, i64)> for Same {
-    ghost mapped = { λ _ x. x };
-
-    fn map(&self, _alloc: Global, item: &(i64, i64)) -> Result<(i64, i64), Memory> {
-        Ok(*item)
     }
 }
 
@@ -154,21 +112,6 @@ impl Mapper<i64, Vec<bool>> for Truths {
     }
 }
 
-// The numbers from a on and before b by steps of c, if they are few.
-pub(crate) fn few(a: i64, b: i64, c: i64) -> Option<RangeSplitter>
-    ensures place { IfSome result (λ s. ⟦<RangeSplitter as Splitter>⟧.lo s ≡ 0) }
-    ensures few { IfSome result (λ s. length (⟦<RangeSplitter as Splitter>⟧.items s) ≤ 1000) }
-{
-    if c == 0 || range_count(a, b, c) > 1000 {
-        return None;
-    }
-    let source = RangeSplitter::new(a, b, c);
-    if source.remaining() > 1000 {
-        return None;
-    }
-    Some(source)
-}
-
 // Whether the answer is this list.
 pub(crate) fn is_got(tried: &Tried<Vec<i64>>, items: &[i64]) -> bool {
     match tried {
@@ -185,15 +128,6 @@ pub(crate) fn are_got(tried: &Tried<(Vec<i64>, Vec<i64>)>, first: &[i64], second
     }
 }
 
-// How many tests the leaves made.
-pub(crate) fn tested(audit: &Audit) -> u64 {
-    let mut tests = 0u64;
-    for leaf in audit.leaves() {
-        tests = tests.saturating_add(leaf.tested);
-    }
-    tests
-}
-
 #[test]
 fn each_item(rt: HostRuntime) -> Result<(), Fail> {
     let alloc = rt.alloc();
@@ -203,13 +137,13 @@ fn each_item(rt: HostRuntime) -> Result<(), Fail> {
         (-7, -6, &[49], &[-7]),
     ];
     for (a, b, squares, backwards) in cases {
-        let source = few(a, b, 1).ok_or("few")?;
+        let source = stepping(a, b, 1).ok_or("few")?;
         let (made, audit) = map_alone::<RangeSplitter, Ints, OpenGate, Square>(
             alloc, source, &Square, 4, &OpenGate,
         )?;
         assert_eq!(rt; made.as_slice(), squares);
         assert_eq!(rt; tested(&audit), 0);
-        let source = few(a, b, 1).ok_or("few")?;
+        let source = stepping(a, b, 1).ok_or("few")?;
         let (made, _) = reverse_alone::<RangeSplitter, Ints, OpenGate, Same>(
             alloc, source, &Same, 4, &OpenGate,
         )?;
@@ -226,14 +160,14 @@ fn pairs(rt: HostRuntime) -> Result<(), Fail> {
         (19, &[(0, 10), (1, 11), (2, 12), (3, 13), (4, 14)]),
     ];
     for (end, wanted) in cases {
-        let source = few(0, 5, 1).ok_or("few")?;
-        let other = few(10, end, 1).ok_or("few")?;
+        let source = stepping(0, 5, 1).ok_or("few")?;
+        let other = stepping(10, end, 1).ok_or("few")?;
         let (made, _) = zip_alone::<RangeSplitter, Pairs, OpenGate, RangeSplitter, Same>(
             alloc, source, other, &Same, 4, &OpenGate,
         )?;
         assert_eq!(rt; made.as_slice(), wanted);
     }
-    let source = few(0, 6, 2).ok_or("few")?;
+    let source = stepping(0, 6, 2).ok_or("few")?;
     let (made, audit) = zip_with_index_alone::<RangeSplitter, Pairs, OpenGate, Same>(
         alloc, source, &Same, 4, &OpenGate,
     )?;
@@ -246,13 +180,13 @@ fn pairs(rt: HostRuntime) -> Result<(), Fail> {
 fn chosen_items(rt: HostRuntime) -> Result<(), Fail> {
     let alloc = rt.alloc();
     let low = OneOf { a: 0, b: 2, c: 2 };
-    let source = few(0, 4, 1).ok_or("few")?;
+    let source = stepping(0, 4, 1).ok_or("few")?;
     let (parts, _) = partition_alone::<RangeSplitter, Ints, OpenGate, OneOf, Data>(
         alloc, source, &low, &Data, 4, &OpenGate,
     )?;
     assert!(rt; are_got(&parts, &[0, 1], &[5, 6]));
     let even = OneOf { a: 0, b: 2, c: 4 };
-    let source = few(0, 6, 1).ok_or("few")?;
+    let source = stepping(0, 6, 1).ok_or("few")?;
     let (squares, audit) = collect_alone::<RangeSplitter, Ints, OpenGate, OneOf, Square>(
         alloc, source, &even, &Square, 4, &OpenGate,
     )?;
@@ -261,12 +195,12 @@ fn chosen_items(rt: HostRuntime) -> Result<(), Fail> {
         least: 2,
         faulty: -1,
     };
-    let source = few(0, 5, 1).ok_or("few")?;
+    let source = stepping(0, 5, 1).ok_or("few")?;
     let (kept, _) = filter_not_alone::<RangeSplitter, Ints, OpenGate, Rule, Same>(
         alloc, source, &from_two, &Same, 4, &OpenGate,
     )?;
     assert!(rt; is_got(&kept, &[0, 1]));
-    let source = few(0, 5, 1).ok_or("few")?;
+    let source = stepping(0, 5, 1).ok_or("few")?;
     let (kept, _) = filter_alone::<RangeSplitter, Ints, OpenGate, Rule, Same>(
         alloc, source, &from_two, &Same, 4, &OpenGate,
     )?;
@@ -278,7 +212,7 @@ fn chosen_items(rt: HostRuntime) -> Result<(), Fail> {
 fn fronts(rt: HostRuntime) -> Result<(), Fail> {
     let alloc = rt.alloc();
     let low = OneOf { a: 0, b: 2, c: 2 };
-    let source = few(0, 4, 1).ok_or("few")?;
+    let source = stepping(0, 4, 1).ok_or("few")?;
     let (parts, _) = span_alone::<RangeSplitter, Ints, OpenGate, OneOf, Data>(
         alloc, source, &low, &Data, 4, &OpenGate,
     )?;
@@ -289,7 +223,7 @@ fn fronts(rt: HostRuntime) -> Result<(), Fail> {
         let rule = Not {
             inner: Rule { least, faulty: -1 },
         };
-        let source = few(0, 100, 1).ok_or("few")?;
+        let source = stepping(0, 100, 1).ok_or("few")?;
         let (front, audit) = take_while_alone::<RangeSplitter, Ints, OpenGate, Not<Rule>, Same>(
             alloc, source, &rule, &Same, 8, &OpenGate,
         )?;
@@ -298,7 +232,7 @@ fn fronts(rt: HostRuntime) -> Result<(), Fail> {
             Tried::Fault(_) => 1000,
         };
         assert!(rt; count == before && tested(&audit) == tests && audit.leaves().len() == 7);
-        let source = few(0, 5, 1).ok_or("few")?;
+        let source = stepping(0, 5, 1).ok_or("few")?;
         let (rest, _) = drop_while_alone::<RangeSplitter, Ints, OpenGate, Not<Rule>, Same>(
             alloc, source, &rule, &Same, 4, &OpenGate,
         )?;
@@ -320,13 +254,13 @@ fn faults(rt: HostRuntime) -> Result<(), Fail> {
         least: 5,
         faulty: 3,
     };
-    let source = few(0, 8, 1).ok_or("few")?;
+    let source = stepping(0, 8, 1).ok_or("few")?;
     let (kept, audit) = filter_alone::<RangeSplitter, Ints, OpenGate, Rule, Same>(
         alloc, source, &from_five, &Same, 4, &OpenGate,
     )?;
     assert!(rt; matches!(kept, Tried::Fault(fault) if fault == at) && tested(&audit) == 8);
     let below = Not { inner: from_five };
-    let source = few(0, 8, 1).ok_or("few")?;
+    let source = stepping(0, 8, 1).ok_or("few")?;
     let (front, audit) = take_while_alone::<RangeSplitter, Ints, OpenGate, Not<Rule>, Same>(
         alloc, source, &below, &Same, 4, &OpenGate,
     )?;
@@ -337,7 +271,7 @@ fn faults(rt: HostRuntime) -> Result<(), Fail> {
             faulty: 3,
         },
     };
-    let source = few(0, 8, 1).ok_or("few")?;
+    let source = stepping(0, 8, 1).ok_or("few")?;
     let (front, _) = take_while_alone::<RangeSplitter, Ints, OpenGate, Not<Rule>, Same>(
         alloc, source, &early, &Same, 4, &OpenGate,
     )?;
@@ -357,7 +291,7 @@ fn cuts(rt: HostRuntime) -> Result<(), Fail> {
         (i64::MAX, &[0, 1, 2, 3, 4], &[]),
     ];
     for (n, taken, dropped) in cases {
-        let source = few(0, 5, 1).ok_or("few")?;
+        let source = stepping(0, 5, 1).ok_or("few")?;
         let front = take::<RangeSplitter, Ints, Same>(alloc, source.dup(), n, &Same)?;
         let rest = drop::<RangeSplitter, Ints, Same>(alloc, source.dup(), n, &Same)?;
         assert_eq!(rt; (front.as_slice(), rest.as_slice()), (taken, dropped));
@@ -371,7 +305,7 @@ fn cuts(rt: HostRuntime) -> Result<(), Fail> {
         (i64::MIN, i64::MAX, &[0, 1, 2, 3, 4]),
     ];
     for (a, b, wanted) in slices {
-        let source = few(0, 5, 1).ok_or("few")?;
+        let source = stepping(0, 5, 1).ok_or("few")?;
         let part = slice::<RangeSplitter, Ints, Same>(alloc, source, a, b, &Same)?;
         assert_eq!(rt; part.as_slice(), wanted);
     }
@@ -381,13 +315,13 @@ fn cuts(rt: HostRuntime) -> Result<(), Fail> {
 #[test]
 fn lists(rt: HostRuntime) -> Result<(), Fail> {
     let alloc = rt.alloc();
-    let source = few(0, 3, 1).ok_or("few")?;
+    let source = stepping(0, 3, 1).ok_or("few")?;
     let (made, _) = flat_map_alone::<RangeSplitter, Ints, OpenGate, Twice>(
         alloc, source, &Twice, 4, &OpenGate,
     )?;
     assert_eq!(rt; made.as_slice(), [0i64, 0, 1, 1, 2, 2].as_slice());
     let many = Truths { count: 4_194_305 };
-    let source = few(0, 1, 1).ok_or("few")?;
+    let source = stepping(0, 1, 1).ok_or("few")?;
     let made = flat_map_alone::<RangeSplitter, ArrayCombiner<bool>, OpenGate, Truths>(
         alloc, source, &many, 4, &OpenGate,
     );
