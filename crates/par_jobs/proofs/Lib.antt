@@ -1,4 +1,5 @@
 pub mod Scanning
+pub mod Searching
 pub mod Fronts
 pub mod Faults
 pub mod Lasts

@@ -15,6 +15,7 @@ use Rattle.par_task.specs.Seats.{IsLater, IsFresh, IsLeafOf}
 use Rattle.par_task.proofs.Stops.{marked_below, stop_least, clear_join, clear_one}
 use Rattle.par_signal.specs.Calls.{aborts}
 use Rattle.par_jobs.specs.Steps.{IsUnset, IsGoingOn}
+use Rattle.par_jobs.specs.Few.{IsScanning}
 
 module _ {X : Type 0} where
   pub span_head : (source : List X) (at : ℕ) (x : X) (rest : List X) (d : X) → IsSpan source at (x ∷ rest) → get_or source at d ≡ x
@@ -31,13 +32,6 @@ module _ {X : Type 0} where
         within = omega (arith, s.within);
         same = ap (λ v. drop 1 v) s.same ∙ (ap (λ k. drop 1 (take k (drop at source))) e ∙ (drop-take 1 (length rest) (drop at source) ∙ ap (λ v. take (length rest) v) (drop-drop 1 at source)));
       }
-
--- the items from lo to at were passed and none of them is marked; those up to hi are left
-pub record IsScanning {X : Type 0} (source : List X) (marks : List Bool) (lo hi at : ℕ) (items : List X) : Type 0 where
-  pub span : IsSpan source at items
-  pub ends : at + length items ≡ hi
-  pub from : lo ≤ at
-  pub clear : Clear marks lo at
 
 module _ {X : Type 0} (V : X → Verdict) (source : List X) (verdicts : List Verdict) (same : map V source ≡ verdicts) where
   pub verdict_at : (at : ℕ) (x : X) (rest : List X) → IsSpan source at (x ∷ rest) → get_or verdicts at Fail ≡ V x
@@ -59,6 +53,15 @@ scan_next source marks lo hi at x rest s u = record {
   ends = omega (arith, s.ends);
   from = omega (arith, s.from);
   clear = clear_join marks lo at (at + 1) s.clear (clear_one marks at u);
+}
+
+-- a scan goes on where another ended
+pub scan_join : {X : Type 0} (source : List X) (marks : List Bool) (lo hi at to : ℕ) (items left : List X) → IsScanning source marks lo hi at items → IsScanning source marks at (at + length items) to left → IsScanning source marks lo hi to left
+scan_join source marks lo hi at to items left p q = record {
+  span = q.span;
+  ends = omega (arith, p.ends, q.ends);
+  from = omega (arith, p.from, q.from);
+  clear = clear_join marks lo at to p.clear q.clear;
 }
 
 not_last : (marks : List Bool) (lo c : ℕ) → Clear marks lo (lo + c) → EndsMarked marks lo c → ⊥

@@ -1,6 +1,7 @@
 pub mod Stock
 pub mod Steps
 pub mod Passing
+pub mod Few
 pub mod Merges
 pub mod Spanned
 pub mod Faults

@@ -16,12 +16,14 @@
 //! `fault_here` and `fault_before` look at the one item that ended a job. What an audit tells is `IsRunOver` of specs/Runs.
 //!
 //! What is kept of the items is a `Builder`'s business, so that a call above is a builder and a few lines. The leaf of a
-//! low-flag job is one function, `pass_low`, whatever is kept.
+//! low-flag job is one function, `pass_low`, whatever is kept. Leaves that may end early pass their items a few at once, by
+//! `pass_few`.
 #![tactic(auto)]
 
 mod abort;
 mod builder;
 mod fault;
+mod few;
 mod front;
 mod gather;
 mod keeping;

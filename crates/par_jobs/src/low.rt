@@ -9,7 +9,7 @@ ghost use Rattle.par_jobs.specs.Steps.{IsLowRead, IsLowered};
 ghost use Rattle.par_jobs.specs.Passing.{IsPassed, IsLeft, IsGiven, is_whole, left_by};
 
 use crate::builder::Builder;
-use crate::fault::is_halt;
+use crate::few::{FEW, Stage, pass_few};
 use par_laws::{Memory, Probe, Shown, Test};
 use par_signal::{SignalSeat, Signals};
 use par_splitter::Splitter;
@@ -138,20 +138,23 @@ fn pass_items<S: Splitter, P: Test<S::Item>, B: Builder<S::Item>>(
     let (lo, hi) = input.span();
     let mut at = lo;
     let mut kept = builder.start(alloc)?;
-    while let Some(item) = input.next() {
-        let halt = is_halt(probe.test(&item));
-        if halt {
-            tell_mark(signals, seat, at);
-            return Ok(leaf_did(flag, at, kept, Ended::Halted(item)));
+    loop {
+        let few = pass_few(alloc, marked, builder, FEW, at, kept, input, probe)?;
+        at = few.at;
+        kept = few.kept;
+        match few.stage {
+            Stage::All => {}
+            Stage::Met(item, _) => {
+                tell_mark(signals, seat, at);
+                return Ok(leaf_did(flag, at, kept, Ended::Halted(item)));
+            }
+            Stage::Out => return Ok(leaf_did(flag, hi, kept, Ended::Whole)),
         }
-        kept = builder.add(alloc, kept, &item)?;
-        at += 1;
         let past = is_past(signals, seat, lo, at, hi);
         if past {
             return Ok(leaf_did(flag, at, kept, Ended::Past));
         }
     }
-    Ok(leaf_did(flag, hi, kept, Ended::Whole))
 }
 
 /// Passes the items of a leaf up to the first marked one, which it tells by the low flag. It passes none where the flag

@@ -2,12 +2,16 @@
 ghost use Rattle.std.specs.Prelude.{◌≡◌, ℕ, ◌+◌, ◌-◌, ◌≤◌, ◌<◌, ◌^◌, length, map, IfOk};
 ghost use Rattle.par_task.specs.Marking.{abort_flag, marks_of};
 ghost use Rattle.par_task.specs.Seats.{IsLater, IsLeafOf};
+ghost use Rattle.par_task.specs.Spans.{IsSpan};
 ghost use Rattle.par_jobs.specs.Merges.{IsSought, not_found_by};
 ghost use Rattle.par_jobs.specs.Passing.{IsGiven};
+ghost use Rattle.par_jobs.specs.Few.{IsFew};
 ghost use Rattle.par_jobs.specs.declared.search.Sought.TheVariants.{Found};
 
 use crate::abort::{decided, decider, is_decided};
 use crate::fault::{is_pass, note_fault};
+use crate::few::{FEW, Few, Stage, pass_few};
+use crate::stock::Nothing;
 use par_laws::{FaultAt, Memory, Probe, Shown, Test};
 use par_signal::{SignalSeat, Signals};
 use par_splitter::Splitter;
@@ -48,10 +52,38 @@ fn found(i: u32, flag: u32) -> Done<Sought>
     }
 }
 
+// Passes the next items of a leaf over `lo..`, up to the first that does not fail: a few of them, or one where an item that
+// was met left fewer up to the next place at which the flag is read.
+#[inline(always)]
+fn seek_few<S: Splitter, P: Test<S::Item>>(
+    alloc: Global,
+    marked: &Marked<'_, S, P>,
+    lo: u32,
+    at: u32,
+    input: &mut S,
+    probe: &mut Probe<'_, P>,
+) -> Result<Few<Nothing, S::Item>, Memory>
+    requires from { lo ≤ at }
+    requires part { IsSpan (S.items marked.now.split) at (S.items input.old) }
+    requires small { length (S.items marked.now.split) ≤ 4194304 }
+    requires test { map (P.verdict probe.old.inner) (S.items marked.now.split) ≡ map (P.verdict marked.now.inner) (S.items marked.now.split) }
+    requires room { probe.old.made + length (S.items input.old) < 2 ^ 64 }
+    ensures test { probe.new.inner ≡ probe.old.inner }
+    ensures made { probe.old.made ≤ probe.new.made }
+    ensures few { IfOk result (λ r. IsFew S.Item.shown (P.verdict marked.now.inner) (S.items marked.now.split) at (S.items input.old) r.at r.stage (S.items input.new) (probe.new.made - probe.old.made)) }
+{
+    if (at - lo) % FEW == 0 {
+        pass_few(alloc, marked, &Nothing, FEW, at, Nothing, input, probe)
+    } else {
+        pass_few(alloc, marked, &Nothing, 1, at, Nothing, input, probe)
+    }
+}
+
 // Looks through the items of a leaf for one that passes, and tells it by the abort flag. It breaks off where another leaf
 // met one. It stands inline, so that a probe of the caller's own stays in registers.
 #[inline(always)]
 fn seek<S: Splitter, P: Test<S::Item>>(
+    alloc: Global,
     marked: &Marked<'_, S, P>,
     mut input: S,
     probe: &mut Probe<'_, P>,
@@ -72,25 +104,33 @@ fn seek<S: Splitter, P: Test<S::Item>>(
     let (lo, hi) = input.span();
     let mut at = lo;
     let mut fault: Option<FaultAt> = None;
-    while let Some(item) = input.next() {
-        let verdict = probe.test(&item);
-        let pass = is_pass(verdict);
-        if pass {
-            signals.abort(seat, at);
-            return Ok(found(at, flag));
+    loop {
+        let few = seek_few(alloc, marked, lo, at, &mut input, probe)?;
+        at = few.at;
+        match few.stage {
+            Stage::All => {}
+            Stage::Met(_, verdict) => {
+                let pass = is_pass(verdict);
+                if pass {
+                    signals.abort(seat, at);
+                    return Ok(found(at, flag));
+                }
+                fault = note_fault(fault, verdict, at);
+                at += 1;
+            }
+            Stage::Out => {
+                return Ok(Done {
+                    part: not_found(fault),
+                    flag,
+                });
+            }
         }
-        fault = note_fault(fault, verdict, at);
-        at += 1;
         let ended = is_decided(signals, seat, lo, at, hi);
         if ended {
             let i = decider(signals, seat)?;
             return Ok(found(i, flag));
         }
     }
-    Ok(Done {
-        part: not_found(fault),
-        flag,
-    })
 }
 
 /// Finds an item that passes. `forall` and `sameElements` have the contrary test.
@@ -122,14 +162,14 @@ impl<'a, S: Splitter, P: Test<S::Item>> Job for SearchJob<'a, S, P> {
 
     fn leaf(
         &self,
-        _alloc: Global,
+        alloc: Global,
         input: S,
         probe: &mut Probe<'_, P>,
         signals: &Signals,
         seat: &mut SignalSeat,
     ) -> Result<Done<Sought>, Memory> {
         let mut asking = probe.take();
-        let done = seek(&self.marked, input, &mut asking, signals, seat);
+        let done = seek(alloc, &self.marked, input, &mut asking, signals, seat);
         *probe = asking;
         done
     }

@@ -3,9 +3,11 @@ use Rattle.par_laws.specs.Marks.{IsMarked, Clear}
 use Rattle.par_task.specs.Marking.{abort_flag, marks_of, passes}
 use Rattle.par_task.specs.Leaves.{IsReadAgain}
 use Rattle.par_task.proofs.Running.{marks_length}
-use Rattle.par_jobs.proofs.Faults.{fault_step, fault_begins, not_found_is}
-use Rattle.par_jobs.proofs.Scanning.{scan_begins, scan_next, verdict_at, mark_at, abort_skips, abort_finds, abort_breaks, abort_ends, unset_going, going_later, going_join, going_fresh, abort_later, later_join}
+use Rattle.par_jobs.proofs.Faults.{fault_begins, not_found_is}
+use Rattle.par_jobs.proofs.Searching.{IsSearching, search_few, search_met}
+use Rattle.par_jobs.proofs.Scanning.{scan_begins, mark_at, abort_skips, abort_finds, abort_breaks, abort_ends, unset_going, going_join, going_fresh}
 use Rattle.par_jobs.proofs.search.seek.Goals as goal
+use Rattle.par_jobs.proofs.search.seek.Goals.{in-All, in-Met+else-pass}
 
 pub returns-in-Some-clause-leaf : goal.returns-in-Some-clause-leaf
 returns-in-Some-clause-leaf g c =
@@ -22,155 +24,181 @@ pub returns-in-Some-clause-good : goal.returns-in-Some-clause-good
 returns-in-Some-clause-good g c =
     let d = rw c.in-Some.is at c.in_ok-i.ensures.read in rw c.found.ensures (subst (λ w. IsMarked w c.in-Some.i) c.requires.marks d.marked)
 
-pub loop-item-init : goal.loop-item-init
-loop-item-init g c =
+pub loop-input-init : goal.loop-input-init
+loop-input-init g c =
     let source = g.S.Splitter.items c.args.marked.now.split in
     let verdicts = map (g.P.Test.verdict c.args.marked.now.inner) source in
     let marks = marks_of abort_flag verdicts in
-    let size : length source ≡ length marks = marks_length abort_flag (g.P.Test.verdict c.args.marked.now.inner) source _ refl in
     let begun : c.span-lo.result.0 ≡ g.S.Splitter.lo c.args.input = c.span-lo.ensures.lo in
     let d = rw c.in_default.is at c.in_ok-i.ensures.read in
     rw begun (record {
-      scan = scan_begins source marks (g.S.Splitter.lo c.args.input) _ c.requires.part;
-      place = refl;
+      on = record { scan = scan_begins source marks (g.S.Splitter.lo c.args.input) _ c.requires.part; first = fault_begins verdicts (g.S.Splitter.lo c.args.input) };
       lo_is = refl;
       flag_is = c.count-flag.ensures;
       inner = refl;
       made = refl;
       unset = d.unset;
       seat = unset_going _ _ d;
-      fault = fault_begins verdicts (g.S.Splitter.lo c.args.input);
     })
-
-pub abort-requires-clause-of : goal.abort-requires-clause-of
-abort-requires-clause-of g c = c.loop-item.invariant.seat.of ∙ c.requires.seat
 
 pub abort-requires-clause-marked : goal.abort-requires-clause-marked
 abort-requires-clause-marked g c =
     let source = g.S.Splitter.items c.args.marked.now.split in
-    let verdicts = map (g.P.Test.verdict c.args.marked.now.inner) source in
-    let marks = marks_of abort_flag verdicts in
-    let size : length source ≡ length marks = marks_length abort_flag (g.P.Test.verdict c.args.marked.now.inner) source _ refl in
-    let i = c.loop-item.invariant in
-    let scan = rw c.in-Some-next.ensures.first at (rw i.lo_is at i.scan) in
-    let v = c.test-verdict.ensures.answer ∙ ap (λ p. g.P.Test.verdict p (g.S.Item.Shown.shown c.in-Some-next.item)) i.inner in
-    let mark = mark_at (g.P.Test.verdict c.args.probe.now.inner) source _ c.requires.test abort_flag c.loop-item.at _ _ scan.span ∙ (ap passes (sym v) ∙ sym c.is_pass-pass.ensures) in
-    subst (λ w. IsMarked w c.loop-item.at) (sym c.requires.marks) (mark ∙ c.if-pass.true)
-
-pub returns-then-pass-clause-seat : goal.returns-then-pass-clause-seat
-returns-then-pass-clause-seat g c = later_join _ _ _ (going_later _ _ c.loop-item.invariant.seat) (abort_later _ _ _ _ c.abort.ensures.seen.2 c.abort.ensures.set)
+    let V = g.P.Test.verdict c.args.marked.now.inner in
+    let few = rw c.in-Met.is at c.in_ok-few.ensures.few in
+    let mark = mark_at V source _ refl abort_flag c.in_ok-few.few.at _ _ few.scan.span ∙ (ap passes (sym few.ended.0) ∙ (sym c.is_pass-pass.ensures ∙ c.if-pass.true)) in
+    subst (λ w. IsMarked w c.in_ok-few.few.at) (sym c.requires.marks) mark
 
 pub returns-then-pass-clause-leaf : goal.returns-then-pass-clause-leaf
 returns-then-pass-clause-leaf g c =
     let source = g.S.Splitter.items c.args.marked.now.split in
-    let verdicts = map (g.P.Test.verdict c.args.marked.now.inner) source in
+    let V = g.P.Test.verdict c.args.marked.now.inner in
+    let verdicts = map V source in
     let marks = marks_of abort_flag verdicts in
-    let size : length source ≡ length marks = marks_length abort_flag (g.P.Test.verdict c.args.marked.now.inner) source _ refl in
-    let i = c.loop-item.invariant in
-    let scan = rw c.in-Some-next.ensures.first at (rw i.lo_is at i.scan) in
-    let v = c.test-verdict.ensures.answer ∙ ap (λ p. g.P.Test.verdict p (g.S.Item.Shown.shown c.in-Some-next.item)) i.inner in
-    let mark = mark_at (g.P.Test.verdict c.args.probe.now.inner) source _ c.requires.test abort_flag c.loop-item.at _ _ scan.span ∙ (ap passes (sym v) ∙ sym c.is_pass-pass.ensures) in
+    let i = c.loop-input.invariant in
+    let few = rw c.in-Met.is at c.in_ok-few.ensures.few in
+    let on = search_few V source _ _ c.loop-input.fault g.S.Item.Shown.shown c.loop-input.at _ c.in_ok-few.few.at _ _ _ (rw i.lo_is at i.on) few in
+    let mark = mark_at V source _ refl abort_flag c.in_ok-few.few.at _ _ few.scan.span ∙ (ap passes (sym few.ended.0) ∙ (sym c.is_pass-pass.ensures ∙ c.if-pass.true)) in
+    let size : length source ≡ length marks = marks_length abort_flag V source _ refl in
     let n_is : c.count-flag.result ≡ length marks = i.flag_is ∙ size in
     let within : g.S.Splitter.lo c.args.input + length (g.S.Splitter.items c.args.input) ≤ c.count-flag.result = omega (arith, c.requires.part.within, i.flag_is) in
-    let made : c.loop-item.at + 1 ≡ g.S.Splitter.lo c.args.input + (c.test-verdict.new.self.made - c.args.probe.now.made) = omega (arith, i.made, i.lo_is, c.test-verdict.ensures.made, scan.from) in
-    let before : c.loop-item.at < g.S.Splitter.lo c.args.input + length (g.S.Splitter.items c.args.input) = omega (arith, scan.ends) in
-    rw c.found-then-pass.ensures (abort_finds marks _ _ _ _ _ n_is within _ c.loop-item.at i.unset made scan.from before scan.clear (mark ∙ c.if-pass.true) c.abort.ensures.set)
+    let made : c.in_ok-few.few.at + 1 ≡ g.S.Splitter.lo c.args.input + (c.seek_few.new.probe.made - c.args.probe.now.made) = omega (arith, few.tests, c.in_ok-few.ensures.made, i.made, i.lo_is, few.scan.from, i.on.scan.from) in
+    let before : c.in_ok-few.few.at < g.S.Splitter.lo c.args.input + length (g.S.Splitter.items c.args.input) = omega (arith, on.scan.ends) in
+    rw c.found-then-pass.ensures (abort_finds marks _ _ _ _ _ n_is within _ c.in_ok-few.few.at i.unset made on.scan.from before on.scan.clear mark c.abort.ensures.set)
 
 pub returns-then-pass-clause-good : goal.returns-then-pass-clause-good
 returns-then-pass-clause-good g c =
     let source = g.S.Splitter.items c.args.marked.now.split in
-    let verdicts = map (g.P.Test.verdict c.args.marked.now.inner) source in
+    let V = g.P.Test.verdict c.args.marked.now.inner in
+    let few = rw c.in-Met.is at c.in_ok-few.ensures.few in
+    let mark = mark_at V source _ refl abort_flag c.in_ok-few.few.at _ _ few.scan.span ∙ (ap passes (sym few.ended.0) ∙ (sym c.is_pass-pass.ensures ∙ c.if-pass.true)) in
+    rw c.found-then-pass.ensures mark
+
+pub returns-in-Out-clause-leaf : goal.returns-in-Out-clause-leaf
+returns-in-Out-clause-leaf g c =
+    let source = g.S.Splitter.items c.args.marked.now.split in
+    let V = g.P.Test.verdict c.args.marked.now.inner in
+    let verdicts = map V source in
     let marks = marks_of abort_flag verdicts in
-    let size : length source ≡ length marks = marks_length abort_flag (g.P.Test.verdict c.args.marked.now.inner) source _ refl in
-    let i = c.loop-item.invariant in
-    let scan = rw c.in-Some-next.ensures.first at (rw i.lo_is at i.scan) in
-    let v = c.test-verdict.ensures.answer ∙ ap (λ p. g.P.Test.verdict p (g.S.Item.Shown.shown c.in-Some-next.item)) i.inner in
-    let mark = mark_at (g.P.Test.verdict c.args.probe.now.inner) source _ c.requires.test abort_flag c.loop-item.at _ _ scan.span ∙ (ap passes (sym v) ∙ sym c.is_pass-pass.ensures) in
-    rw c.found-then-pass.ensures (mark ∙ c.if-pass.true)
+    let i = c.loop-input.invariant in
+    let few = rw c.in-Out.is at c.in_ok-few.ensures.few in
+    let on = search_few V source _ _ c.loop-input.fault g.S.Item.Shown.shown c.loop-input.at _ c.in_ok-few.few.at _ _ _ (rw i.lo_is at i.on) few in
+    let size : length source ≡ length marks = marks_length abort_flag V source _ refl in
+    let n_is : c.count-flag.result ≡ length marks = i.flag_is ∙ size in
+    let within : g.S.Splitter.lo c.args.input + length (g.S.Splitter.items c.args.input) ≤ c.count-flag.result = omega (arith, c.requires.part.within, i.flag_is) in
+    let e : c.in_ok-few.few.at ≡ g.S.Splitter.lo c.args.input + length (g.S.Splitter.items c.args.input) = omega (arith, on.scan.ends, ap length few.ended) in
+    abort_ends marks _ _ _ _ _ n_is within _ i.unset (omega (arith, e, few.tests, c.in_ok-few.ensures.made, i.made, i.lo_is, few.scan.from, i.on.scan.from)) (subst (λ k. Clear marks (g.S.Splitter.lo c.args.input) k) e on.scan.clear) (λ a f. going_fresh _ _ i.seat f)
 
-pub is_decided-ended-requires-clause-seat : goal.is_decided-ended-requires-clause-seat
-is_decided-ended-requires-clause-seat g c = c.loop-item.invariant.seat.of ∙ c.requires.seat
-
-pub decider-requires-clause-seat : goal.decider-requires-clause-seat
-decider-requires-clause-seat g c = c.is_decided-ended.ensures.later.of ∙ (c.loop-item.invariant.seat.of ∙ c.requires.seat)
-
-pub decider-requires-clause-set : goal.decider-requires-clause-set
-decider-requires-clause-set g c = (c.is_decided-ended.ensures.set c.if-ended.true).1.set
-
-pub returns-then-ended-clause-seat : goal.returns-then-ended-clause-seat
-returns-then-ended-clause-seat g c = later_join _ _ _ (later_join _ _ _ (going_later _ _ c.loop-item.invariant.seat) c.is_decided-ended.ensures.later) c.decider.ensures.later
+pub returns-in-Out-clause-good : goal.returns-in-Out-clause-good
+returns-in-Out-clause-good g c =
+    let source = g.S.Splitter.items c.args.marked.now.split in
+    let V = g.P.Test.verdict c.args.marked.now.inner in
+    let verdicts = map V source in
+    let marks = marks_of abort_flag verdicts in
+    let i = c.loop-input.invariant in
+    let few = rw c.in-Out.is at c.in_ok-few.ensures.few in
+    let on = search_few V source _ _ c.loop-input.fault g.S.Item.Shown.shown c.loop-input.at _ c.in_ok-few.few.at _ _ _ (rw i.lo_is at i.on) few in
+    let e : c.in_ok-few.few.at ≡ g.S.Splitter.lo c.args.input + length (g.S.Splitter.items c.args.input) = omega (arith, on.scan.ends, ap length few.ended) in
+    rw (c.not_found.ensures, ← e) (not_found_is verdicts marks _ _ _ on.first on.scan.clear)
 
 pub returns-then-ended-clause-leaf : goal.returns-then-ended-clause-leaf
 returns-then-ended-clause-leaf g c =
     let source = g.S.Splitter.items c.args.marked.now.split in
-    let verdicts = map (g.P.Test.verdict c.args.marked.now.inner) source in
-    let marks = marks_of abort_flag verdicts in
-    let size : length source ≡ length marks = marks_length abort_flag (g.P.Test.verdict c.args.marked.now.inner) source _ refl in
-    let i = c.loop-item.invariant in
-    let scan = rw c.in-Some-next.ensures.first at (rw i.lo_is at i.scan) in
-    let v = c.test-verdict.ensures.answer ∙ ap (λ p. g.P.Test.verdict p (g.S.Item.Shown.shown c.in-Some-next.item)) i.inner in
-    let mark = mark_at (g.P.Test.verdict c.args.probe.now.inner) source _ c.requires.test abort_flag c.loop-item.at _ _ scan.span ∙ (ap passes (sym v) ∙ sym c.is_pass-pass.ensures) in
+    let V = g.P.Test.verdict c.args.marked.now.inner in
+    let i = c.loop-input.invariant in
+    let step :
+    IsSearching source (map V source) c.span-lo.result.0 (g.S.Splitter.lo c.args.input + length (g.S.Splitter.items c.args.input)) c.match-few.at (g.S.Splitter.items c.seek_few.new.input) c.match-few.fault ×
+    (c.seek_few.new.probe.made + c.span-lo.result.0 ≡ c.args.probe.now.made + c.match-few.at) =
+    elim c.match-few.branch [
+      | in-All w ↦
+          let few = rw w.in-All.is at c.in_ok-few.ensures.few in
+          rw (w.at-is, w.fault-is) (
+            search_few V source _ _ c.loop-input.fault g.S.Item.Shown.shown c.loop-input.at _ c.in_ok-few.few.at _ _ _ i.on few,
+            omega (arith, few.tests, c.in_ok-few.ensures.made, i.made, few.scan.from, i.on.scan.from),
+          )
+      | in-Met+else-pass w ↦
+          let few = rw w.in-Met.is at c.in_ok-few.ensures.few in
+          let on = search_few V source _ _ c.loop-input.fault g.S.Item.Shown.shown c.loop-input.at _ c.in_ok-few.few.at _ _ _ i.on few in
+          rw (w.at-is, w.fault-is, w.note_fault-fault.ensures) (
+            search_met V source _ _ c.loop-input.fault c.in_ok-few.few.at _ _ w.in-Met.verdict few.ended.0 (sym w.is_pass-pass.ensures ∙ w.if-pass.false) on,
+            omega (arith, few.tests, c.in_ok-few.ensures.made, i.made, few.scan.from, i.on.scan.from),
+          )
+    ] in
+    let marks = marks_of abort_flag (map V source) in
+    let size : length source ≡ length marks = marks_length abort_flag V source _ refl in
     let n_is : c.count-flag.result ≡ length marks = i.flag_is ∙ size in
     let within : g.S.Splitter.lo c.args.input + length (g.S.Splitter.items c.args.input) ≤ c.count-flag.result = omega (arith, c.requires.part.within, i.flag_is) in
-    let made : c.loop-item.at + 1 ≡ g.S.Splitter.lo c.args.input + (c.test-verdict.new.self.made - c.args.probe.now.made) = omega (arith, i.made, i.lo_is, c.test-verdict.ensures.made, scan.from) in
-    let before : c.loop-item.at < g.S.Splitter.lo c.args.input + length (g.S.Splitter.items c.args.input) = omega (arith, scan.ends) in
-    let next = scan_next source _ _ _ c.loop-item.at _ _ scan (mark ∙ c.if-pass.false) in
+    let scan = rw i.lo_is at step.0.scan in
+    let made : c.match-few.at ≡ g.S.Splitter.lo c.args.input + (c.seek_few.new.probe.made - c.args.probe.now.made) = omega (arith, step.1, i.lo_is, scan.from) in
+    let count : c.match-few.at - c.span-lo.result.0 ≡ c.seek_few.new.probe.made - c.args.probe.now.made = omega (arith, step.1, step.0.scan.from) in
     let d = c.is_decided-ended.ensures.set c.if-ended.true in
     let m = subst (λ w. IsMarked w c.in_ok-i-2.i) c.requires.marks c.in_ok-i-2.ensures.marked in
-    let count : c.loop-item.at + 1 - c.span-lo.result.0 ≡ c.test-verdict.new.self.made - c.args.probe.now.made = omega (arith, made, i.lo_is, scan.from) in
     rw c.found-then-ended.ensures
-    (abort_breaks marks _ _ _ _ _ n_is within _ c.in_ok-i-2.i i.unset (subst IsReadAgain count d.0) (omega (arith, made, before)) (subst (λ k. Clear marks (g.S.Splitter.lo c.args.input) k) made next.clear) m (c.decider.ensures.later.abort d.1.set)
+    (abort_breaks marks _ _ _ _ _ n_is within _ c.in_ok-i-2.i i.unset (subst IsReadAgain count d.0) (omega (arith, made, scan.ends)) (subst (λ k. Clear marks (g.S.Splitter.lo c.args.input) k) made scan.clear) m (c.decider.ensures.later.abort d.1.set)
     (λ a f. d.1.by_another (i.seat.alone ∙ a) (i.seat.abort f.abort)))
 
-pub returns-then-ended-clause-good : goal.returns-then-ended-clause-good
-returns-then-ended-clause-good g c = rw c.found-then-ended.ensures (subst (λ w. IsMarked w c.in_ok-i-2.i) c.requires.marks c.in_ok-i-2.ensures.marked)
-
-pub loop-item-preserved : goal.loop-item-preserved
-loop-item-preserved g c =
+pub loop-input-preserved-else-ended : goal.loop-input-preserved-else-ended
+loop-input-preserved-else-ended g c =
     let source = g.S.Splitter.items c.args.marked.now.split in
-    let verdicts = map (g.P.Test.verdict c.args.marked.now.inner) source in
-    let marks = marks_of abort_flag verdicts in
-    let size : length source ≡ length marks = marks_length abort_flag (g.P.Test.verdict c.args.marked.now.inner) source _ refl in
-    let i = c.loop-item.invariant in
-    let scan = rw c.in-Some-next.ensures.first at i.scan in
-    let v = c.test-verdict.ensures.answer ∙ ap (λ p. g.P.Test.verdict p (g.S.Item.Shown.shown c.in-Some-next.item)) i.inner in
-    let mark = mark_at (g.P.Test.verdict c.args.probe.now.inner) source _ c.requires.test abort_flag c.loop-item.at _ _ scan.span ∙ (ap passes (sym v) ∙ sym c.is_pass-pass.ensures) in
-    let at_is = verdict_at (g.P.Test.verdict c.args.probe.now.inner) source _ c.requires.test c.loop-item.at _ _ scan.span ∙ sym v in
+    let V = g.P.Test.verdict c.args.marked.now.inner in
+    let i = c.loop-input.invariant in
+    let step :
+    IsSearching source (map V source) c.span-lo.result.0 (g.S.Splitter.lo c.args.input + length (g.S.Splitter.items c.args.input)) c.match-few.at (g.S.Splitter.items c.seek_few.new.input) c.match-few.fault ×
+    (c.seek_few.new.probe.made + c.span-lo.result.0 ≡ c.args.probe.now.made + c.match-few.at) =
+    elim c.match-few.branch [
+      | in-All w ↦
+          let few = rw w.in-All.is at c.in_ok-few.ensures.few in
+          rw (w.at-is, w.fault-is) (
+            search_few V source _ _ c.loop-input.fault g.S.Item.Shown.shown c.loop-input.at _ c.in_ok-few.few.at _ _ _ i.on few,
+            omega (arith, few.tests, c.in_ok-few.ensures.made, i.made, few.scan.from, i.on.scan.from),
+          )
+      | in-Met+else-pass w ↦
+          let few = rw w.in-Met.is at c.in_ok-few.ensures.few in
+          let on = search_few V source _ _ c.loop-input.fault g.S.Item.Shown.shown c.loop-input.at _ c.in_ok-few.few.at _ _ _ i.on few in
+          rw (w.at-is, w.fault-is, w.note_fault-fault.ensures) (
+            search_met V source _ _ c.loop-input.fault c.in_ok-few.few.at _ _ w.in-Met.verdict few.ended.0 (sym w.is_pass-pass.ensures ∙ w.if-pass.false) on,
+            omega (arith, few.tests, c.in_ok-few.ensures.made, i.made, few.scan.from, i.on.scan.from),
+          )
+    ] in
     record {
-      scan = scan_next source _ _ _ c.loop-item.at _ _ scan (mark ∙ c.if-pass.false);
-      place = c.in-Some-next.ensures.lo_next ∙ ap (λ k. k + 1) i.place;
+      on = step.0;
       lo_is = i.lo_is;
       flag_is = i.flag_is;
-      inner = c.test-verdict.ensures.inner ∙ i.inner;
-      made = omega (arith, c.test-verdict.ensures.made, i.made);
+      inner = c.in_ok-few.ensures.test ∙ i.inner;
+      made = step.1;
       unset = i.unset;
       seat = going_join _ _ _ i.seat (c.is_decided-ended.ensures.unset c.if-ended.false);
-      fault = rw c.note_fault-fault.ensures (fault_step _ _ c.loop-item.at _ c.test-verdict.result scan.from at_is i.fault);
     }
 
-pub returns-clause-seat : goal.returns-clause-seat
-returns-clause-seat g c = going_later _ _ c.loop-item.invariant.seat
-
-pub returns-clause-leaf : goal.returns-clause-leaf
-returns-clause-leaf g c =
+pub loop-input-preserved : goal.loop-input-preserved
+loop-input-preserved g c =
     let source = g.S.Splitter.items c.args.marked.now.split in
-    let verdicts = map (g.P.Test.verdict c.args.marked.now.inner) source in
-    let marks = marks_of abort_flag verdicts in
-    let size : length source ≡ length marks = marks_length abort_flag (g.P.Test.verdict c.args.marked.now.inner) source _ refl in
-    let i = c.loop-item.invariant in
-    let scan = rw i.lo_is at i.scan in
-    let n_is : c.count-flag.result ≡ length marks = i.flag_is ∙ size in
-    let within : g.S.Splitter.lo c.args.input + length (g.S.Splitter.items c.args.input) ≤ c.count-flag.result = omega (arith, c.requires.part.within, i.flag_is) in
-    let e : c.loop-item.at ≡ g.S.Splitter.lo c.args.input + length (g.S.Splitter.items c.args.input) = omega (arith, scan.ends, ap length c.in_default-next.ensures.none) in
-    abort_ends marks _ _ _ _ _ n_is within _ i.unset (omega (arith, e, i.made, i.lo_is, scan.from)) (subst (λ k. Clear marks (g.S.Splitter.lo c.args.input) k) e scan.clear) (λ a f. going_fresh _ _ i.seat f)
-
-pub returns-clause-good : goal.returns-clause-good
-returns-clause-good g c =
-    let source = g.S.Splitter.items c.args.marked.now.split in
-    let verdicts = map (g.P.Test.verdict c.args.marked.now.inner) source in
-    let marks = marks_of abort_flag verdicts in
-    let size : length source ≡ length marks = marks_length abort_flag (g.P.Test.verdict c.args.marked.now.inner) source _ refl in
-    let i = c.loop-item.invariant in
-    let scan = rw i.lo_is at i.scan in
-    let e : c.loop-item.at ≡ g.S.Splitter.lo c.args.input + length (g.S.Splitter.items c.args.input) = omega (arith, scan.ends, ap length c.in_default-next.ensures.none) in
-    rw (c.not_found.ensures, ← e) (not_found_is verdicts marks _ _ _ (rw i.lo_is at i.fault) scan.clear)
+    let V = g.P.Test.verdict c.args.marked.now.inner in
+    let i = c.loop-input.invariant in
+    let step :
+    IsSearching source (map V source) c.span-lo.result.0 (g.S.Splitter.lo c.args.input + length (g.S.Splitter.items c.args.input)) c.match-few.at (g.S.Splitter.items c.seek_few.new.input) c.match-few.fault ×
+    (c.seek_few.new.probe.made + c.span-lo.result.0 ≡ c.args.probe.now.made + c.match-few.at) =
+    elim c.match-few.branch [
+      | in-All w ↦
+          let few = rw w.in-All.is at c.in_ok-few.ensures.few in
+          rw (w.at-is, w.fault-is) (
+            search_few V source _ _ c.loop-input.fault g.S.Item.Shown.shown c.loop-input.at _ c.in_ok-few.few.at _ _ _ i.on few,
+            omega (arith, few.tests, c.in_ok-few.ensures.made, i.made, few.scan.from, i.on.scan.from),
+          )
+      | in-Met+else-pass w ↦
+          let few = rw w.in-Met.is at c.in_ok-few.ensures.few in
+          let on = search_few V source _ _ c.loop-input.fault g.S.Item.Shown.shown c.loop-input.at _ c.in_ok-few.few.at _ _ _ i.on few in
+          rw (w.at-is, w.fault-is, w.note_fault-fault.ensures) (
+            search_met V source _ _ c.loop-input.fault c.in_ok-few.few.at _ _ w.in-Met.verdict few.ended.0 (sym w.is_pass-pass.ensures ∙ w.if-pass.false) on,
+            omega (arith, few.tests, c.in_ok-few.ensures.made, i.made, few.scan.from, i.on.scan.from),
+          )
+    ] in
+    record {
+      on = step.0;
+      lo_is = i.lo_is;
+      flag_is = i.flag_is;
+      inner = c.in_ok-few.ensures.test ∙ i.inner;
+      made = step.1;
+      unset = i.unset;
+      seat = going_join _ _ _ i.seat (c.is_decided-ended.ensures.unset c.if-ended.false);
+    }

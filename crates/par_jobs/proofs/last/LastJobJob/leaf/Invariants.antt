@@ -1,7 +1,7 @@
 use Rattle.std.proofs.Common.{◌≡◌, ◌+◌, length, map, []}
 use Rattle.par_task.specs.Marking.{high_flag, marks_of}
 use Rattle.par_jobs.proofs.Lasts.{IsBest}
-use Rattle.par_jobs.proofs.Scanning.{IsScanning}
+use Rattle.par_jobs.specs.Few.{IsScanning}
 use Rattle.par_jobs.proofs.last.LastJobJob.leaf.Given as goal
 
 abbrev pub invariant-loop-item : goal.invariant-loop-item

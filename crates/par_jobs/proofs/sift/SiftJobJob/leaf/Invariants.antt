@@ -4,7 +4,7 @@ use Rattle.par_task.specs.Marking.{passes}
 use Rattle.par_task.specs.Parts.{between}
 use Rattle.par_jobs.specs.Steps.{fails}
 use Rattle.par_jobs.proofs.Faults.{IsFaultSoFar}
-use Rattle.par_jobs.proofs.Scanning.{IsScanning}
+use Rattle.par_jobs.specs.Few.{IsScanning}
 use Rattle.par_jobs.proofs.sift.SiftJobJob.leaf.Given as goal
 
 abbrev pub invariant-loop-item : goal.invariant-loop-item
