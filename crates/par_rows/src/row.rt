@@ -7,14 +7,15 @@ ghost use Rattle.par_rows.specs.Hash.{row_hash};
 
 use crate::value::Value;
 use par_laws::{HashKey, Keep, Memory, Shown};
+use smallvec::SmallVec;
 use std::alloc::Global;
 use std::cmp::Ordering;
 use std::marker::Model;
 
-/// The values of a row. Contracts see the list of them.
+/// The values of a row. Contracts see the list of them. One value lies in the row itself, more of them in an allocation.
 #[derive(Debug, Drop)]
 pub struct Values {
-    items: Vec<Value>,
+    items: SmallVec<Value, 1>,
 }
 
 impl Model for Values {
@@ -27,11 +28,11 @@ impl Model for Values {
 }
 
 impl Values {
-    /// No values, with room for so many. Takes memory where `count` is not 0.
+    /// No values, with room for so many. Takes memory where `count` is above 1.
     pub fn with_room(alloc: Global, count: usize) -> Result<Values, Memory>
         ensures { IfOk result (λ values. values ≡ []) }
     {
-        let items = Vec::with_capacity(alloc, count)?;
+        let items = SmallVec::with_capacity(alloc, count)?;
         Ok(Values { items })
     }
 

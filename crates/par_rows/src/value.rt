@@ -1,9 +1,10 @@
-ghost use Rattle.std.specs.Prelude.{refl};
+ghost use Rattle.std.specs.Prelude.{◌≡◌, pos, refl};
 ghost use Rattle.std.specs.Cmp.{eq_by_cmp_equiv, partial_equiv_from_equiv, po};
 ghost use Rattle.std.specs.Ordering.{eq_by_cmp};
 ghost use Rattle.std.specs.declared.option.Option.TheVariants.{Some};
 ghost use Rattle.par_rows.specs.Order.{value_cmp, value_told, value_total};
 ghost use Rattle.par_rows.specs.Hash.{value_hash};
+ghost use Rattle.par_rows.specs.declared.value.Value.TheVariants.{Int};
 
 use par_laws::{HashKey, Keep, Memory, Shown, Words};
 use std::alloc::Global;
@@ -16,6 +17,15 @@ pub enum Value {
     Int(i64),
     /// A text.
     Text(Words),
+}
+
+/// The number 0.
+impl Default for Value {
+    ghost is_default = { λ v. v ≡ Int (pos 0) };
+
+    fn default() -> Value {
+        Value::Int(0)
+    }
 }
 
 impl Shown for Value {
