@@ -1,5 +1,5 @@
 -- How many records one counts up to does not matter, where it is more than the bytes.
-use Rattle.std.proofs.Common.{◌≡◌, ◌<◌, ◌≤◌, ◌+◌, ◌⊎◌, ◌∷◌, ◌∙◌, sym, refl, ap, inl, inr, ℕ, zero, suc, List, [], length, Option, Some, None, arith}
+use Rattle.std.proofs.Common.{◌≡◌, ◌<◌, ◌+◌, ◌⊎◌, ◌∷◌, ◌∙◌, sym, refl, ap, inl, inr, ℕ, zero, suc, List, [], length, Option, Some, None, arith}
 use Rattle.std.proofs.lemmas.Bool.{cases_Bool}
 use Rattle.csv.specs.Machine.{Read, next_record, step, is_end, ends_at_end, fields_after, field_after}
 use Rattle.csv.specs.Reading.{records_from}

@@ -1,3 +1,4 @@
 pub mod Counts
 pub mod Steps
 pub mod Walk
+pub mod Valid

@@ -1,12 +1,12 @@
 -- One read takes the first of the records that are left.
-use Rattle.std.proofs.Common.{◌≡◌, ◌+◌, ◌∷◌, ◌∙◌, sym, refl, ap, ℕ, Bool, true, false, List, [], length, Option, Some, None, if◌then◌else◌, arith}
+use Rattle.std.proofs.Common.{◌≡◌, ◌+◌, ◌∙◌, sym, refl, ℕ, Bool, true, List, [], length, Option, Some, None}
 use Rattle.std.specs.Borrow.{Bor}
 use Rattle.csv.specs.Machine.{Read, next_record}
 use Rattle.csv.specs.Reading.{NextIs, ReadRecord, ReadsNext, Ready, default_config, pending_of, records_from}
 use Rattle.csv.specs.declared.parser.Config.{Config}
 use Rattle.csv.specs.declared.parser.State.{State}
 use Rattle.csv.specs.declared.reader.Reader.{Reader}
-use Rattle.pipe_data.specs.Left.{IsNext, IsPlain, left, left_of, source}
+use Rattle.pipe_data.specs.Left.{IsNext, IsPlain, left, source}
 use Rattle.pipe_data.proofs.Counts.{left_none, left_next}
 
 abbrev from : Config → State → List ℕ → List (List (List ℕ))

@@ -5,7 +5,7 @@ use Rattle.csv.specs.Records.{field_at}
 use Rattle.par_rows.specs.declared.schema.Column.{Column}
 use Rattle.par_rows.specs.declared.value.Value.{Value}
 use Rattle.par_rows.specs.declared.row.Row.{Row}
-use Rattle.pipe_data.specs.Data.{are_names, row_of, rows_from, value_of, values_of, with_row, with_value}
+use Rattle.pipe_data.specs.Data.{are_names, row_of, rows_from, with_row, with_value}
 use Rattle.pipe_data.specs.declared.stop.DataStop.{DataStop}
 
 taken : (fs : List (List ℕ)) (i : ℕ) (f : List ℕ) → field_at fs i ≡ Some f → drop i fs ≡ f ∷ drop (suc i) fs

@@ -1,5 +1,5 @@
 -- Why reading stopped: for the refusal, or for want of memory.
-use Rattle.std.specs.Prelude.{◌≡◌, ℕ, List, Result, Ok, Err}
+use Rattle.std.specs.Prelude.{◌≡◌, ℕ, List, Result, Err}
 use Rattle.par_rows.specs.declared.row.Row.{Row}
 use Rattle.pipe_data.specs.declared.stop.Flaw.{Flaw}
 use Rattle.pipe_data.specs.declared.stop.DataStop.{DataStop}

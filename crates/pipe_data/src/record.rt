@@ -1,10 +1,11 @@
 //! The row that a record is.
-ghost use Rattle.std.specs.Prelude.{◌≡◌, ◌≤◌, IfOk, IfErr, Ok, Err, length, option_map, true};
+ghost use Rattle.std.specs.Prelude.{◌≡◌, ◌≤◌, IfOk, IfErr, Ok, Err, length, option_map, true, if◌then◌else◌};
 ghost use Rattle.std.specs.List.{list_all};
 ghost use Rattle.std.specs.Str.{is_utf8};
 ghost use Rattle.csv.specs.Records.{fields_of};
 ghost use Rattle.pipe_data.specs.Data.{are_names, row_of, utf8_chars, value_of, values_of};
 ghost use Rattle.pipe_data.specs.Stops.{StopsRecord};
+ghost use Rattle.pipe_data.specs.declared.stop.Flaw.TheVariants as flaws;
 
 use crate::stop::{DataStop, Flaw};
 use csv::ByteRecord;
@@ -120,7 +121,19 @@ fn read_values(
     Ok(Some(values))
 }
 
-/// The row that a record is, or the first of its flaws that is listed.
+// What is wrong with a record of which a field has no value.
+fn no_value(fields: &ByteRecord) -> Flaw
+    ensures { result ≡ (if list_all is_utf8 (fields_of fields.now) then flaws.Number else flaws.Utf8) }
+{
+    if is_text(fields) {
+        Flaw::Number
+    } else {
+        Flaw::Utf8
+    }
+}
+
+/// The row that a record is, or the first of its flaws that is listed. Fields that have values are UTF-8, so all of them are
+/// looked at for that only where one has no value.
 pub(crate) fn read_row(
     alloc: Global,
     columns: &[Column],
@@ -132,11 +145,8 @@ pub(crate) fn read_row(
     if fields.len() != columns.len() {
         return Err(RecordStop::Flaw(Flaw::Fields));
     }
-    if !is_text(fields) {
-        return Err(RecordStop::Flaw(Flaw::Utf8));
-    }
     match read_values(alloc, columns, fields)? {
         Some(values) => Ok(Row { values }),
-        None => Err(RecordStop::Flaw(Flaw::Number)),
+        None => Err(RecordStop::Flaw(no_value(fields))),
     }
 }

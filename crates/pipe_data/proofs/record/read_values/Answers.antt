@@ -1,7 +1,6 @@
-use Rattle.std.proofs.Common.{◌≡◌, ◌∙◌, sym, ap, rules, arith, drop, Some}
+use Rattle.std.proofs.Common.{◌≡◌, ◌∙◌, sym, rules, arith, Some}
 use Rattle.csv.specs.Records.{field_at, fields_of}
-use Rattle.pipe_data.specs.Data.{values_of}
-use Rattle.pipe_data.proofs.Walk.{field_taken, no_field, values_begin, values_more}
+use Rattle.pipe_data.proofs.Walk.{field_taken, no_field, values_more}
 use Rattle.pipe_data.proofs.record.read_values.Goals as goal
 
 pub returns-in_default-get : goal.returns-in_default-get

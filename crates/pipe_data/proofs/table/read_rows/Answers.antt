@@ -1,9 +1,5 @@
-use Rattle.std.proofs.Common.{◌≡◌, ◌≤◌, ◌∙◌, ◌++◌, ◌∷◌, [], ap, sym, rules, arith, suc, ◌+◌, nat_lt, false, true, Ok}
-use Rattle.std.proofs.lemmas.Bool.Decides.{nat_tests}
-use Rattle.csv.specs.Records.{fields_of}
-use Rattle.pipe_data.specs.Data.{row_of, rows_from}
-use Rattle.pipe_data.specs.Left.{left}
-use Rattle.pipe_data.proofs.Walk.{next_row, rows_then}
+use Rattle.std.proofs.Common.{◌≤◌, ◌∙◌, rules, arith}
+use Rattle.pipe_data.proofs.Walk.{next_row}
 use Rattle.pipe_data.proofs.table.read_rows.Goals as goal
 
 pub loop-number-preserved : goal.loop-number-preserved
