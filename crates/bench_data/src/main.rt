@@ -88,7 +88,7 @@ fn count_records(alloc: Global, text: &[u8]) -> Result<u64, io::Error> {
         if !found {
             return Ok(count);
         }
-        count += 1;
+        count = count.wrapping_add(1);
     }
     Ok(count)
 }
