@@ -1,3 +1,4 @@
+pub mod Content
 pub mod Guarded
 pub mod Hash
 pub mod Marks
