@@ -4,3 +4,4 @@ pub mod Doubling
 pub mod Members
 pub mod Blocks
 pub mod Unions
+pub mod EmptyBlocks

@@ -18,7 +18,7 @@ use std::marker::Model;
 #[derive(Drop)]
 pub struct Block<K: HashKey> {
     room: u32,
-    keys: Entries<K, (), BlockSlots>,
+    pub(crate) keys: Entries<K, (), BlockSlots>,
 }
 
 impl<K: HashKey> Model for Block<K> {

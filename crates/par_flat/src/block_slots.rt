@@ -13,9 +13,9 @@ use std::marker::Model;
 #[derive(Drop)]
 pub struct BlockSlots {
     shift: u32,
-    size: u32,
+    pub(crate) size: u32,
     count: u32,
-    slots: Vec<Slot>,
+    pub(crate) slots: Vec<Slot>,
 }
 
 impl Model for BlockSlots {

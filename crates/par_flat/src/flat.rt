@@ -19,7 +19,7 @@ use std::marker::Model;
 /// A finite set, seen as the list of its keys in the order in which they came.
 #[derive(Drop)]
 pub struct FlatTable<K: HashKey> {
-    keys: Entries<K, (), Slots>,
+    pub(crate) keys: Entries<K, (), Slots>,
 }
 
 impl<K: HashKey> Model for FlatTable<K> {

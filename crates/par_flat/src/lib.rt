@@ -20,3 +20,6 @@ pub use block::{Block, fill_block};
 pub use bucket::{flat_bucket, room_for};
 pub use flat::FlatTable;
 pub use splitter::FlatSplitter;
+
+#[cfg(test)]
+mod tests;

@@ -12,7 +12,7 @@ use std::marker::Model;
 #[derive(Drop)]
 pub struct Slots {
     alloc: Global,
-    room: u32,
+    pub(crate) room: u32,
     count: u32,
     slots: Vec<Slot>,
 }

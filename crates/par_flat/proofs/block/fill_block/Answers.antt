@@ -1,4 +1,4 @@
-use Rattle.std.proofs.Common.{rules, ◌≡◌, ◌∙◌, ◌+◌, ◌≤◌, ℕ, ap, sym, subst, ◌++◌, ◌∷◌, [], append_assoc, length, arith}
+use Rattle.std.proofs.Common.{rules, ◌≡◌, ◌∙◌, ◌+◌, ◌≤◌, ap, sym, subst, ◌++◌, ◌∷◌, [], append_assoc, length, arith}
 use Rattle.std.specs.Global.{Vec}
 use Rattle.std.specs.List.{IsDistinct, flat_map}
 use Rattle.std.specs.Map.{keys_of}

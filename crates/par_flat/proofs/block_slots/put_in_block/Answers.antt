@@ -1,7 +1,5 @@
-use Rattle.std.proofs.Common.{◌≡◌, ◌+◌, ◌∙◌, sym, ap, drop, ◌<◌, ◌≤◌, ℕ, length, arith}
-use Rattle.std.specs.Prelude.{slice_get, Some}
+use Rattle.std.proofs.Common.{◌≡◌, ◌+◌, ◌∙◌, ap, drop, arith}
 use Rattle.std.proofs.Math.Nat.{mod-lt}
-use Rattle.par_flat.specs.declared.slots.Slot.TheVariants.{Free}
 use Rattle.par_flat.specs.Slots.{first_free}
 use Rattle.par_flat.specs.Blocks.{home_in}
 use Rattle.par_flat.proofs.Walks.{back_is}

@@ -1,4 +1,4 @@
-use Rattle.std.proofs.Common.{◌≡◌, ◌≤◌, ◌*◌, ◌^◌, arith}
+use Rattle.std.proofs.Common.{arith}
 use Rattle.par_flat.proofs.Doubling.{is_room}
 use Rattle.par_flat.proofs.bucket.room_for.Goals as goal
 

@@ -1,4 +1,4 @@
-use Rattle.std.proofs.Common.{◌≡◌, ◌∙◌, ◌+◌, ◌≤◌, ap, sym, ◌++◌, ◌∷◌, [], append_assoc, length, length-append, take, arith, inl}
+use Rattle.std.proofs.Common.{◌≡◌, ◌∙◌, ◌+◌, ◌≤◌, ap, sym, ◌++◌, ◌∷◌, [], append_assoc, length, length-append, arith, inl}
 use Rattle.std.specs.Map.{keys_of}
 use Rattle.par_index.proofs.Keeping.{on_err_any, take_front}
 use Rattle.par_flat.specs.Keys.{insert_key, insert_keys}

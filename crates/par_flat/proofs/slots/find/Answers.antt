@@ -1,4 +1,4 @@
-use Rattle.std.proofs.Common.{◌≡◌, ◌∙◌, sym, ap}
+use Rattle.std.proofs.Common.{◌∙◌, sym, ap}
 use Rattle.par_flat.proofs.Walks.{looked-found, looked-end, absent-gap, absent-round, absent-later, absent_all, back_is}
 use Rattle.par_flat.specs.Slots.{looked}
 use Rattle.par_flat.proofs.slots.find.Goals as goal

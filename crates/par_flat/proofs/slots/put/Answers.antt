@@ -1,6 +1,4 @@
-use Rattle.std.proofs.Common.{◌≡◌, ◌+◌, ◌∙◌, sym, ap, drop, take, ◌/◌, ◌^◌, ◌<◌, ◌≤◌, ℕ, length, arith}
-use Rattle.std.specs.Prelude.{slice_get, Some}
-use Rattle.par_flat.specs.declared.slots.Slot.TheVariants.{Free}
+use Rattle.std.proofs.Common.{◌≡◌, ◌+◌, ◌∙◌, ap, drop, take, ◌/◌, ◌^◌, ◌<◌, arith}
 use Rattle.par_flat.specs.Slots.{first_free}
 use Rattle.par_flat.proofs.Walks.{back_is}
 use Rattle.par_flat.proofs.Puts.{clear-late, clear-early, late_is_free, early_is_free, early_within, is_in-put, taken-set}

@@ -1,4 +1,4 @@
-use Rattle.std.proofs.Common.{rules, ◌≡◌, ◌∙◌, ap, sym, length, subst, ◌||◌, take, ◌+◌, get_or, ◌∷◌, [], arith}
+use Rattle.std.proofs.Common.{◌∙◌, ap, sym, length, subst, ◌||◌, ◌+◌, get_or, ◌∷◌, [], arith}
 use Rattle.par_flat.specs.declared.slots.Slot.TheVariants.{Free}
 use Rattle.par_flat.specs.Slots.{AreClear, is_in, taken, leaves_of}
 use Rattle.par_index.specs.Places.{is_among}

@@ -1,4 +1,4 @@
-use Rattle.std.proofs.Common.{◌≡◌, ℕ, take, length}
+use Rattle.std.proofs.Common.{◌≡◌, ℕ, take}
 use Rattle.par_flat.specs.Slots.{AreClear, is_in, taken}
 use Rattle.par_flat.proofs.table.put_all.Given as goal
 

@@ -1,6 +1,6 @@
-use Rattle.std.proofs.Common.{◌≡◌, ◌∙◌, ◌≤◌, ◌*◌, ◌^◌, ◌-◌, ap, sym, subst, refl, length, take, drop, ◌++◌, arith}
+use Rattle.std.proofs.Common.{◌≡◌, ◌∙◌, ◌*◌, ◌^◌, ◌-◌, ap, sym, subst, refl, length, take, drop, ◌++◌, arith}
 use Rattle.par_index.proofs.Keeping.{take_front}
-use Rattle.par_flat.specs.Slots.{IsTable, taken}
+use Rattle.par_flat.specs.Slots.{IsTable}
 use Rattle.par_flat.proofs.Puts.{homes_of}
 use Rattle.par_flat.proofs.Doubling.{small_room}
 use Rattle.par_flat.proofs.table.spread.Goals as goal

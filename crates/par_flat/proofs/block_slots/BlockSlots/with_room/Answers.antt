@@ -1,4 +1,4 @@
-use Rattle.std.proofs.Common.{rules, ◌≡◌, ◌∙◌, ◌<◌, ◌-◌, ◌*◌, ◌^◌, ◌%◌, ℕ, ap, sym, subst, replicate, arith}
+use Rattle.std.proofs.Common.{rules, ◌≡◌, ◌∙◌, ◌<◌, ◌-◌, ◌*◌, ◌^◌, ◌%◌, ap, sym, subst, replicate, arith}
 use Rattle.std.proofs.lemmas.Nat.{pow_pos}
 use Rattle.par_flat.specs.declared.slots.Slot.TheVariants.{Free}
 use Rattle.par_flat.specs.Slots.{taken}

@@ -1,4 +1,4 @@
-use Rattle.std.proofs.Common.{◌≡◌, ◌∙◌, ap, sym, ◌++◌, ◌∷◌, [], append_assoc, length, arith, ◌+◌, ◌≤◌, ℕ, List}
+use Rattle.std.proofs.Common.{◌≡◌, ◌∙◌, ap, sym, ◌++◌, ◌∷◌, [], append_assoc, length, arith, ◌+◌, ◌≤◌}
 use Rattle.std.specs.Map.{keys_of}
 use Rattle.par_index.specs.Entries.{joined}
 use Rattle.par_index.proofs.Keeping.{joined-push, joined-room}
