@@ -189,7 +189,10 @@ fn behind_verb(alloc: Global, verb: Verb, rest: &[Token]) -> Result<(Line, &[Tok
     ensures { Gives (λ x. (view x.0, x.1.now)) result (form_at part_at (line_form verb) rest.now) }
 {
     match verb {
-        Verb::Pipeline => Ok((Line::Version, expect(Joint::Two, rest)?)),
+        Verb::Pipeline => {
+            let rest = expect(Joint::Two, rest)?;
+            Ok((Line::Version, rest))
+        }
         Verb::Par => {
             let (kind, rest) = kind(rest)?;
             Ok((Line::Par(kind), rest))
