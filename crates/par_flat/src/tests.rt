@@ -37,12 +37,14 @@ fn a_table_has_room_for_its_keys(rt: HostRuntime) -> Result<(), Fail> {
 #[test]
 fn a_table_doubles_past_half(rt: HostRuntime) -> Result<(), Fail> {
     let mut table = FlatTable::with_room(rt.alloc(), 0)?;
-    for (key, room) in [(14i64, 0), (15, 0), (16, 1), (31, 1), (32, 2)] {
-        while (table.len() as i64) <= key && table.len() < MAX_ITEMS {
-            let next = table.len() as i64;
-            table.insert(next)?;
+    for (count, room) in [(16u32, 0), (17, 1), (32, 1), (33, 2)] {
+        for key in 0..count {
+            if table.len() < MAX_ITEMS {
+                table.insert(key as i64)?;
+            }
         }
-        assert_eq!(rt; table.keys.index().room, room, "{key}");
+        assert_eq!(rt; table.len(), count);
+        assert_eq!(rt; table.keys.index().room, room, "{count}");
     }
     Ok(())
 }
@@ -66,9 +68,9 @@ fn a_union_has_the_room_of_its_blocks(rt: HostRuntime) -> Result<(), Fail> {
 #[test]
 fn leftovers_lie_past_the_end(rt: HostRuntime) -> Result<(), Fail> {
     let mut slots = BlockSlots::with_room(rt.alloc(), 0)?;
-    for _ in 0..3 {
-        slots.push(0)?;
-    }
+    slots.push(0)?;
+    slots.push(0)?;
+    slots.push(0)?;
     assert_eq!(rt; slots.size, 1);
     assert_eq!(rt; slots.slots.len(), 3);
     Ok(())
